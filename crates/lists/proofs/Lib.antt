@@ -1,0 +1,4 @@
+pub mod Latest
+pub mod Chains
+pub mod Swap
+pub mod Positions

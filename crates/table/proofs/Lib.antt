@@ -1,0 +1,10 @@
+pub mod Apart
+pub mod Capacity
+pub mod Homes
+pub mod Lists
+pub mod Marks
+pub mod Moves
+pub mod Seeks
+pub mod Twos
+pub mod Walks
+pub mod Writes

@@ -1,0 +1,4 @@
+pub mod Twins
+pub mod Slots
+pub mod Index
+pub mod Tables

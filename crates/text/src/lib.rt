@@ -1,0 +1,4 @@
+// Words and numbers of a line of bytes.
+pub mod lines;
+pub mod numbers;
+pub mod words;
