@@ -32,11 +32,12 @@ one-on-none (Some i) e = let z : _≡_ {A = ℕ} 0 1 = cc in let w : ⊥ = omega
 
 none-parts : {A : Type 0} (p : A → Bool) (x : A) (xs : List A) → position p (x ∷ xs) ≡ None → (p x ≡ false) × (position p xs ≡ None)
 none-parts p x xs e =
-    elim (cases-bool (p x))
-      [ inl t ↦
-        let c = cond-true (p x) (Some 0) (one-on (position p xs)) t in
-        let z : _≡_ {A = ℕ} 0 1 = cc in let w : ⊥ = omega arith in absurd w
-      | inr f ↦ (f, one-on-none (position p xs) (sym (cond-false (p x) (Some 0) _ f) ∙ e)) ]
+    elim (cases-bool (p x)) [
+      | inl t ↦
+          let c = cond-true (p x) (Some 0) (one-on (position p xs)) t in
+          let z : _≡_ {A = ℕ} 0 1 = cc in let w : ⊥ = omega arith in absurd w
+      | inr f ↦ (f, one-on-none (position p xs) (sym (cond-false (p x) (Some 0) _ f) ∙ e))
+    ]
 
 -- the answer tells of each element
 pub none-passes : {A : Type 0} (p : A → Bool) (xs : List A) → position p xs ≡ None
@@ -52,8 +53,9 @@ one-on-some (Some j) i e = (j, refl, cc)
 pub found-within : {A : Type 0} (p : A → Bool) (xs : List A) (i : ℕ) → position p xs ≡ Some i → i < length xs
 found-within p [] i e = let z : _≡_ {A = ℕ} 0 1 = cc in let w : ⊥ = omega arith in absurd w
 found-within p (x ∷ xs) i e =
-    elim (cases-bool (p x))
-      [ inl t ↦ let c = cond-true (p x) (Some 0) (one-on (position p xs)) t in let z : i ≡ 0 = cc in omega arith
+    elim (cases-bool (p x)) [
+      | inl t ↦ let c = cond-true (p x) (Some 0) (one-on (position p xs)) t in let z : i ≡ 0 = cc in omega arith
       | inr f ↦
-        let m = one-on-some (position p xs) i (sym (cond-false (p x) (Some 0) _ f) ∙ e) in
-        omega (arith, found-within p xs (m .0) (m .1), m .2) ]
+          let m = one-on-some (position p xs) i (sym (cond-false (p x) (Some 0) _ f) ∙ e) in
+          omega (arith, found-within p xs (m .0) (m .1), m .2)
+    ]

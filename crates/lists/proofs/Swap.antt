@@ -41,16 +41,17 @@ take-swap-removed ps ps′ len g gl fits same moved rest =
     let m : length (take (len - 1) ps′) ≡ len - 1 = length-take-le (len - 1) ps′ (omega arith) in
     same-lists _ _ (omega (arith, length-swap-removed (take len ps) g))
     (λ k d lt.
-      let kl : k + 1 < length (take len ps) = omega arith in
-      getD-take (len - 1) ps′ k d (omega arith)
-      ∙ elim (cases-eq k g)
-        [ inl q ↦
+    let kl : k + 1 < length (take len ps) = omega arith in
+    getD-take (len - 1) ps′ k d (omega arith)
+    ∙ elim (cases-eq k g) [
+      | inl q ↦
           let gl′ : g + 1 < length (take len ps) = omega arith in
           ap (λ z. getD ps′ z d) q
           ∙ (moved (omega arith) d
           ∙ (sym (getD-take len ps (len - 1) d (omega arith))
           ∙ (ap (λ z. getD (take len ps) (z - 1) d) (sym n)
           ∙ (sym (swap-removed-at (take len ps) g d gl′) ∙ ap (λ z. getD (swap-removed (take len ps) g) z d) (sym q)))))
-        | inr ne ↦
+      | inr ne ↦
           rest k d (omega arith) ne
-          ∙ (sym (getD-take len ps k d (omega arith)) ∙ sym (swap-removed-other (take len ps) g k d kl ne)) ])
+          ∙ (sym (getD-take len ps k d (omega arith)) ∙ sym (swap-removed-other (take len ps) g k d kl ne))
+    ])

@@ -29,20 +29,22 @@ pub marks-pushed : (n b k : ℕ) (h t m h′ t′ m′ : ℕ → ℕ) → ((i : 
     → m′ b ≡ bitOr (m b) (2 ^ k) → ((c : ℕ) → (c ≡ b → ⊥) → m′ c ≡ m c)
     → (i : ℕ) → i < n + 1 → bit-of (m′ (h′ i)) (t′ i) ≡ 1
 marks-pushed n b k h t m h′ t′ m′ M hn tn ho to mb mo i lt =
-    elim (cases-eq i n)
-      [ inl q ↦
-        ap (λ z. bit-of (m′ (h′ z)) (t′ z)) q
-        ∙ (ap (λ z. bit-of (m′ z) (t′ n)) hn
-        ∙ (ap (λ z. bit-of (m′ b) z) tn ∙ (ap (λ z. bit-of z k) mb ∙ bit-set (m b) k)))
+    elim (cases-eq i n) [
+      | inl q ↦
+          ap (λ z. bit-of (m′ (h′ z)) (t′ z)) q
+          ∙ (ap (λ z. bit-of (m′ z) (t′ n)) hn
+          ∙ (ap (λ z. bit-of (m′ b) z) tn ∙ (ap (λ z. bit-of z k) mb ∙ bit-set (m b) k)))
       | inr ne ↦
-        ap (λ z. bit-of (m′ z) (t′ i)) (ho i ne)
-        ∙ (ap (λ z. bit-of (m′ (h i)) z) (to i ne)
-        ∙ elim (cases-eq (h i) b)
-          [ inl q ↦
-            ap (λ z. bit-of (m′ z) (t i)) q
-            ∙ (ap (λ z. bit-of z (t i)) mb
-            ∙ bit-kept (m b) (2 ^ k) (t i) (ap (λ z. bit-of (m z) (t i)) (sym q) ∙ M i (omega arith)))
-          | inr nb ↦ ap (λ z. bit-of z (t i)) (mo (h i) nb) ∙ M i (omega arith) ]) ]
+          ap (λ z. bit-of (m′ z) (t′ i)) (ho i ne)
+          ∙ (ap (λ z. bit-of (m′ (h i)) z) (to i ne)
+          ∙ elim (cases-eq (h i) b) [
+            | inl q ↦
+                ap (λ z. bit-of (m′ z) (t i)) q
+                ∙ (ap (λ z. bit-of z (t i)) mb
+                ∙ bit-kept (m b) (2 ^ k) (t i) (ap (λ z. bit-of (m z) (t i)) (sym q) ∙ M i (omega arith)))
+            | inr nb ↦ ap (λ z. bit-of z (t i)) (mo (h i) nb) ∙ M i (omega arith)
+          ])
+    ]
 
 -- the marks of a bucket that no place is in do not matter
 pub marks-tidied : (n b : ℕ) (h t m m′ : ℕ → ℕ) → ((i : ℕ) → i < n → bit-of (m (h i)) (t i) ≡ 1)

@@ -12,23 +12,22 @@ use Rattle.lists.proofs.Chains.{agreeing}
 use Rattle.table.specs.declared.slot.Twin.{Twin}
 use Rattle.table.specs.declared.slot.Slot.{Slot}
 use Rattle.table.specs.Slots.{pairs, marked, at, two, none}
-use Rattle.table.specs.Index.{home, homes, mark, tags, bit-of, off, capacity-of, bucket-of}
-use Rattle.table.specs.Tables.{Marked}
+use Rattle.table.specs.Index.{home, homes, mark, tags, bit-of, off, capacity-of, bucket-of, Marked}
 use Rattle.table.proofs.Writes.{off-here, off-other, same-capacity, same-bucket}
 
 -- the entry e is written at place g
 module _ {K V : Type 0} (g : ℕ) (es es′ : List (K × V)) (e : K × V) (is : es′ ≡ set es g e) where
   pub written-part : (part : K → ℕ) → g < length es → at (map (λ z. part (z .0)) es′) g ≡ part (e .0)
   written-part part lt =
-    ap (λ z. at (map (λ (x : K × V). part (x .0)) z) g) is
-    ∙ (ap (λ z. at z g) (map-set (λ (z : K × V). part (z .0)) es g e)
-    ∙ getD-set-same (map (λ (z : K × V). part (z .0)) es) g (part (e .0)) 0 (simp length-map lt))
+      ap (λ z. at (map (λ (x : K × V). part (x .0)) z) g) is
+      ∙ (ap (λ z. at z g) (map-set (λ (z : K × V). part (z .0)) es g e)
+      ∙ getD-set-same (map (λ (z : K × V). part (z .0)) es) g (part (e .0)) 0 (simp length-map lt))
 
   pub other-part : (part : K → ℕ) (i : ℕ) → (i ≡ g → ⊥) → at (map (λ z. part (z .0)) es′) i ≡ at (map (λ z. part (z .0)) es) i
   other-part part i ne =
-    ap (λ z. at (map (λ (x : K × V). part (x .0)) z) i) is
-    ∙ (ap (λ z. at z i) (map-set (λ (z : K × V). part (z .0)) es g e)
-    ∙ getD-set-other (map (λ (z : K × V). part (z .0)) es) g i (part (e .0)) 0 ne)
+      ap (λ z. at (map (λ (x : K × V). part (x .0)) z) i) is
+      ∙ (ap (λ z. at z i) (map-set (λ (z : K × V). part (z .0)) es g e)
+      ∙ getD-set-other (map (λ (z : K × V). part (z .0)) es) g i (part (e .0)) 0 ne)
 
   pub written-home : (hashed : K → ℕ) (cap : ℕ) → g < length es → at (homes hashed cap es′) g ≡ home cap (hashed (e .0))
   written-home hashed cap lt = written-part (λ k. home cap (hashed k)) lt
@@ -47,18 +46,19 @@ module _ {K V : Type 0} (g : ℕ) (es es′ : List (K × V)) (e : K × V) (is : 
       → Chains none (2 * cap) n (off (2 * cap) g (at (homes hashed cap es))) (two fs) (at ns)
       → Chains none (2 * cap′) n (off (2 * cap′) g (at (homes hashed cap′ es′))) (two fs′) (at ns′)
   moved-off hashed cap cap′ n fs fs′ ns ns′ ec ef en L =
-    rw (ec, ef, en)
-    (agreeing none (2 * cap) n (off (2 * cap) g (at (homes hashed cap es))) (two fs) (at ns) (off (2 * cap) g (at (homes hashed cap es′))) (two fs) (at ns)
-    (λ i lt.
-      elim (cases-eq i g)
-        [ inl q ↦
-          ap (off (2 * cap) g (at (homes hashed cap es′))) q
-          ∙ (off-here (2 * cap) g (at (homes hashed cap es′))
-          ∙ (sym (off-here (2 * cap) g (at (homes hashed cap es))) ∙ ap (off (2 * cap) g (at (homes hashed cap es))) (sym q)))
+      rw (ec, ef, en)
+      (agreeing none (2 * cap) n (off (2 * cap) g (at (homes hashed cap es))) (two fs) (at ns) (off (2 * cap) g (at (homes hashed cap es′))) (two fs) (at ns)
+      (λ i lt.
+      elim (cases-eq i g) [
+        | inl q ↦
+            ap (off (2 * cap) g (at (homes hashed cap es′))) q
+            ∙ (off-here (2 * cap) g (at (homes hashed cap es′))
+            ∙ (sym (off-here (2 * cap) g (at (homes hashed cap es))) ∙ ap (off (2 * cap) g (at (homes hashed cap es))) (sym q)))
         | inr ne ↦
-          off-other (2 * cap) g (at (homes hashed cap es′)) i ne
-          ∙ (other-home hashed cap i ne ∙ sym (off-other (2 * cap) g (at (homes hashed cap es)) i ne)) ])
-    (λ b lt. refl) (λ i lt. refl) L)
+            off-other (2 * cap) g (at (homes hashed cap es′)) i ne
+            ∙ (other-home hashed cap i ne ∙ sym (off-other (2 * cap) g (at (homes hashed cap es)) i ne))
+      ])
+      (λ b lt. refl) (λ i lt. refl) L)
 
 -- the marks of the same entries
 pub marked-same : {K V : Type 0} (hashed : K → ℕ) (xs ys : List (Slot K V)) (n m : ℕ) → Marked hashed xs n → m ≤ n
@@ -89,18 +89,19 @@ marked-moved {K} {V} hashed xs ys n g M gn nl ep em el i lt =
     let in-g : g < length (pairs xs) = simp length-map (omega arith) in
     let in-n : n < length (pairs xs) = simp length-map nl in
     let from : (j : ℕ) → at (homes hashed cap (pairs ys)) i ≡ at (homes hashed cap (pairs xs)) j
-            → at (tags hashed (pairs ys)) i ≡ at (tags hashed (pairs xs)) j → j < n + 1
-            → bit-of (two (marked ys) (bucket-of hashed ys i)) (at (tags hashed (pairs ys)) i) ≡ 1 =
-          λ j eh et jl.
-            ap (λ z. bit-of (two (marked ys) (at (homes hashed z (pairs ys)) i)) (at (tags hashed (pairs ys)) i)) (same-capacity xs ys el)
-            ∙ (ap (λ z. bit-of (two (marked ys) z) (at (tags hashed (pairs ys)) i)) eh
-            ∙ (ap (λ z. bit-of (two (marked ys) (bucket-of hashed xs j)) z) et
-            ∙ (ap (λ z. bit-of (two z (bucket-of hashed xs j)) (at (tags hashed (pairs xs)) j)) em ∙ M j jl))) in
-    elim (cases-eq i g)
-      [ inl q ↦
-        from n
-        (ap (at (homes hashed cap (pairs ys))) q ∙ copied-part (λ k. home cap (hashed k)) (pairs xs) (pairs ys) g n in-g in-n ep)
-        (ap (at (tags hashed (pairs ys))) q ∙ copied-part (λ k. mark (hashed k)) (pairs xs) (pairs ys) g n in-g in-n ep) (omega arith)
+    → at (tags hashed (pairs ys)) i ≡ at (tags hashed (pairs xs)) j → j < n + 1
+    → bit-of (two (marked ys) (bucket-of hashed ys i)) (at (tags hashed (pairs ys)) i) ≡ 1 =
+    λ j eh et jl.
+    ap (λ z. bit-of (two (marked ys) (at (homes hashed z (pairs ys)) i)) (at (tags hashed (pairs ys)) i)) (same-capacity xs ys el)
+    ∙ (ap (λ z. bit-of (two (marked ys) z) (at (tags hashed (pairs ys)) i)) eh
+    ∙ (ap (λ z. bit-of (two (marked ys) (bucket-of hashed xs j)) z) et
+    ∙ (ap (λ z. bit-of (two z (bucket-of hashed xs j)) (at (tags hashed (pairs xs)) j)) em ∙ M j jl))) in
+    elim (cases-eq i g) [
+      | inl q ↦
+          from n
+          (ap (at (homes hashed cap (pairs ys))) q ∙ copied-part (λ k. home cap (hashed k)) (pairs xs) (pairs ys) g n in-g in-n ep)
+          (ap (at (tags hashed (pairs ys))) q ∙ copied-part (λ k. mark (hashed k)) (pairs xs) (pairs ys) g n in-g in-n ep) (omega arith)
       | inr ne ↦
-        from i (kept-part (λ k. home cap (hashed k)) (pairs xs) (pairs ys) g n ep in-g i ne)
-        (kept-part (λ k. mark (hashed k)) (pairs xs) (pairs ys) g n ep in-g i ne) (omega arith) ]
+          from i (kept-part (λ k. home cap (hashed k)) (pairs xs) (pairs ys) g n ep in-g i ne)
+          (kept-part (λ k. mark (hashed k)) (pairs xs) (pairs ys) g n ep in-g i ne) (omega arith)
+    ]

@@ -11,9 +11,10 @@ module _ (none buckets n : ℕ) (h f x : ℕ → ℕ) (L : Chains none buckets n
   -- a link that is none of the end is a smaller place of the bucket
   pub link-place : (p link : ℕ) → p ≤ n → link ≡ latest none h b p → (link ≡ none → ⊥) → (link < p) × (h link ≡ b)
   link-place p link pn e ne =
-    elim (latest-range none h b p)
-      [ inl q ↦ absurd (ne (e ∙ q))
-      | inr lt ↦ (omega arith, ap h e ∙ latest-here none h b p (omega arith) lt) ]
+      elim (latest-range none h b p) [
+        | inl q ↦ absurd (ne (e ∙ q))
+        | inr lt ↦ (omega arith, ap h e ∙ latest-here none h b p (omega arith) lt)
+      ]
 
   -- and its own link is the next one
   pub link-next : (i next : ℕ) → i < n → h i ≡ b → next ≡ x i → next ≡ latest none h b i
@@ -31,11 +32,11 @@ link-falls link next lt (inr l) = omega arith
 module _ (none buckets n g : ℕ) (h f x : ℕ → ℕ) (C : Chains-but none buckets n g h f x) (nn : n ≤ none) (b : ℕ) (bl : b < buckets) where
   pub above-from : (p link : ℕ) → g < p → p ≤ n → (p < n → h p ≡ b) → link ≡ latest none (C .bucket) b p → (link < p → g < link → ⊥)
       → Above n h b g p
-  above-from p link gp pn here e stop = record
-    { past = gp
-    ; within = pn
-    ; here = here
-    ; between = λ i lo hi q.
+  above-from p link gp pn here e stop = record {
+    past = gp;
+    within = pn;
+    here = here;
+    between = λ i lo hi q.
         let r = latest-covers none (C .bucket) b p i hi (C .agrees i (omega arith) ∙ q) in
-        stop (omega (arith, r .0)) (omega (arith, r .1))
-    }
+        stop (omega (arith, r .0)) (omega (arith, r .1));
+  }

@@ -23,21 +23,21 @@ two-same l l′ e b = ap (λ z. two z b) e
 
 pub put-head : (n b p v : ℕ) (fs fs′ : List (Twin ℕ)) (ns ns′ : List ℕ) → p ≡ n → Two-set b v fs fs′ → ns′ ≡ ns
     → Put n b p v (two fs) (at ns) (two fs′) (at ns′)
-put-head n b p v fs fs′ ns ns′ pn S en = record
-    { head = λ _. S .here
-    ; link = λ q. let no : ⊥ = omega arith in absurd no
-    ; heads = λ c ne. S .there c (ne pn)
-    ; links = λ i _. at-same ns ns′ en i
-    }
+put-head n b p v fs fs′ ns ns′ pn S en = record {
+  head = λ _. S .here;
+  link = λ q. let no : ⊥ = omega arith in absurd no;
+  heads = λ c ne. S .there c (ne pn);
+  links = λ i _. at-same ns ns′ en i;
+}
 
 pub put-link : (n b p v : ℕ) (fs fs′ : List (Twin ℕ)) (ns ns′ : List ℕ) → p < n → p < length ns → fs′ ≡ fs → ns′ ≡ set ns p v
     → Put n b p v (two fs) (at ns) (two fs′) (at ns′)
-put-link n b p v fs fs′ ns ns′ pn lt ef en = record
-    { head = λ q. let no : ⊥ = omega arith in absurd no
-    ; link = λ _. at-set ns ns′ p v en lt
-    ; heads = λ c _. two-same fs fs′ ef c
-    ; links = λ i ne. at-other ns ns′ p v en i ne
-    }
+put-link n b p v fs fs′ ns ns′ pn lt ef en = record {
+  head = λ q. let no : ⊥ = omega arith in absurd no;
+  link = λ _. at-set ns ns′ p v en lt;
+  heads = λ c _. two-same fs fs′ ef c;
+  links = λ i ne. at-other ns ns′ p v en i ne;
+}
 
 pub same-capacity : {A B : Type 0} (xs : List A) (ys : List B) → length ys ≡ length xs → capacity-of ys ≡ capacity-of xs
 same-capacity xs ys e = ap (λ n. min n 65535) e
@@ -61,11 +61,12 @@ module _ {K V : Type 0} (hashed : K → ℕ) (cap cap′ n : ℕ) (es es′ : Li
 pub held-latest : (buckets n b p : ℕ) (h f x : ℕ → ℕ) → Chains none buckets n h f x → b < buckets → p ≤ n → (p < n → h p ≡ b)
     → held n f x b p ≡ latest none h b p
 held-latest buckets n b p h f x L bl pn here =
-    elim (cases-eq p n)
-      [ inl e ↦ cond-true (eqb p n) _ _ (eq-eqb p n e) ∙ (L .heads b bl ∙ ap (latest none h b) (sym e))
+    elim (cases-eq p n) [
+      | inl e ↦ cond-true (eqb p n) _ _ (eq-eqb p n e) ∙ (L .heads b bl ∙ ap (latest none h b) (sym e))
       | inr ne ↦
-        let e : h p ≡ b = here (omega arith) in
-        cond-false (eqb p n) _ _ (ne-eqb p n ne) ∙ (L .links p (omega arith) (omega arith) ∙ ap (λ z. latest none h z p) e) ]
+          let e : h p ≡ b = here (omega arith) in
+          cond-false (eqb p n) _ _ (ne-eqb p n ne) ∙ (L .links p (omega arith) (omega arith) ∙ ap (λ z. latest none h z p) e)
+    ]
 
 -- a link is a place or none
 pub latest-fits : (h : ℕ → ℕ) (b p : ℕ) → p ≤ none → latest none h b p ≤ none
@@ -73,12 +74,12 @@ latest-fits h b p le = elim (latest-range none h b p) [ inl e ↦ omega arith | 
 
 -- the holder does not depend on the bucket of g itself
 pub above-off : (buckets n b g p : ℕ) (h : ℕ → ℕ) → Above n h b g p → Above n (off buckets g h) b g p
-above-off buckets n b g p h A = record
-    { past = A .past
-    ; within = A .within
-    ; here = λ lt. off-other buckets g h p (omega (arith, A .past)) ∙ A .here lt
-    ; between = λ i lo hi e. A .between i lo hi (sym (off-other buckets g h i (omega arith)) ∙ e)
-    }
+above-off buckets n b g p h A = record {
+  past = A .past;
+  within = A .within;
+  here = λ lt. off-other buckets g h p (omega (arith, A .past)) ∙ A .here lt;
+  between = λ i lo hi e. A .between i lo hi (sym (off-other buckets g h i (omega arith)) ∙ e);
+}
 
 -- the same write, from heads that are equal as lists
 pub put-after : (n b p v : ℕ) (fs fs₀ : List (Twin ℕ)) (x f′ x′ : ℕ → ℕ) → fs₀ ≡ fs → Put n b p v (two fs₀) x f′ x′ → Put n b p v (two fs) x f′ x′

@@ -2,12 +2,12 @@
 use mathlib.Core.Path.{_≡_}
 use mathlib.Core.Bool.{cond}
 use mathlib.Core.List.{List, map}
-use Prim.Native.Nat.{ℕ, _*_, _/_, _%_, _^_, min}
+use Prim.Native.Nat.{ℕ, _*_, _/_, _%_, _^_, _<_, min}
 use lib.Dec.{eqb}
 use lib.ListN.{length}
 use Rattle.lists.specs.Chains.{Chains, Chains-but}
 use Rattle.table.specs.declared.slot.Slot.{Slot}
-use Rattle.table.specs.Slots.{pairs, nexts, headed, at, two, none}
+use Rattle.table.specs.Slots.{pairs, nexts, headed, marked, at, two, none}
 
 -- how many entries a memory has room for
 abbrev pub capacity-of : {A : Type 0} → List A → ℕ
@@ -55,3 +55,8 @@ Chained-but hashed xs n g = Chains-but none (2 * capacity-of xs) n g (bucket-of 
 -- what the holder p of bucket b has: the head where p is n, else the link of p
 abbrev pub held : ℕ → (ℕ → ℕ) → (ℕ → ℕ) → ℕ → ℕ → ℕ
 held n first next b p = cond (eqb p n) (first b) (next p)
+
+-- each of the first n places has its mark set at its bucket
+abbrev pub Marked : {K V : Type 0} → (K → ℕ) → List (Slot K V) → ℕ → Type 0
+Marked hashed xs n =
+    (i : ℕ) → i < n → bit-of (two (marked xs) (bucket-of hashed xs i)) (at (tags hashed (pairs xs)) i) ≡ 1

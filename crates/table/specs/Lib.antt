@@ -1,4 +1,5 @@
 pub mod Twins
 pub mod Slots
 pub mod Index
+pub mod Searches
 pub mod Tables

@@ -19,6 +19,10 @@ headed xs = map (λ s. s .heads) xs
 abbrev pub marked : {K V : Type 0} → List (Slot K V) → List (Twin ℕ)
 marked xs = map (λ s. s .marks) xs
 
+-- a slot that no table has used
+abbrev pub fresh-slot : {K V : Type 0} → K → V → Slot K V
+fresh-slot k v = record { key = k; value = v; heads = record { even = 0; odd = 0 }; next = 0; marks = record { even = 0; odd = 0 } }
+
 -- the link of a chain that ends: no place is as large
 abbrev pub none : ℕ
 none = 65535

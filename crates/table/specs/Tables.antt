@@ -1,7 +1,7 @@
 -- What a table stands for, when it is sound, and what each call answers and leaves.
 use mathlib.Core.Path.{_≡_}
-use mathlib.Core.Bool.{Bool, cond}
-use mathlib.Core.List.{List, [], _∷_, _++_, map}
+use mathlib.Core.Bool.{cond}
+use mathlib.Core.List.{List, [], _∷_, _++_}
 use Prim.Native.Nat.{ℕ, _-_, _<_, _≤_}
 use lib.Dec.{ltb}
 use lib.ListN.{length, getD, take, set}
@@ -15,12 +15,11 @@ use Rattle.std.specs.Finite.{nth}
 use Rattle.keys.specs.Order.{alike}
 use Rattle.lists.specs.Positions.{position}
 use Rattle.lists.specs.Swap.{swap-removed}
-use Rattle.table.specs.declared.slot.Slot.{Slot}
 use Rattle.table.specs.declared.table.Table.{Table}
 use Rattle.table.specs.declared.table.Vacancy.{Vacancy}
 use Rattle.table.specs.declared.table.Taken.{Taken}
-use Rattle.table.specs.Slots.{pairs, marked, at, two}
-use Rattle.table.specs.Index.{capacity-of, home, mark, tags, bit-of, bucket-of, Chained}
+use Rattle.table.specs.Slots.{pairs}
+use Rattle.table.specs.Index.{capacity-of, home, mark, Chained, Marked}
 
 -- the entries in the order of their places
 abbrev pub entries : {K V : Type 0} → Table K V → List (K × V)
@@ -35,11 +34,7 @@ abbrev pub Apart : {K V W : Type 0} → (K → W) → List (K × V) → Type 0
 Apart {K} {V} value es =
     (i j : ℕ) (d : K × V) → i < j → j < length es → value (getD es i d .0) ≡ value (getD es j d .0) → ⊥
 
--- each of the first n places has its mark set at its bucket
-abbrev pub Marked : {K V : Type 0} → (K → ℕ) → List (Slot K V) → ℕ → Type 0
-Marked hashed xs n =
-    (i : ℕ) → i < n → bit-of (two (marked xs) (bucket-of hashed xs i)) (at (tags hashed (pairs xs)) i) ≡ 1
-
+-- what every call asks and gives back: the entries fit, the index is theirs, and their keys are apart
 pub record Sound {K V W : Type 0} (value : K → W) (hashed : K → ℕ) (t : Table K V) : Type 0 where
   pub fits : t .len ≤ capacity t
   pub chained : Chained hashed (now (t .slots)) (t .len)
@@ -78,16 +73,3 @@ taken-at es i (Some e) = (Some (record { entry = e; last = length es - 1; gap = 
 -- the entry at place i by swap removal: what was taken, and the entries then; none where there is no such place
 abbrev pub taken : {K V : Type 0} → List (K × V) → ℕ → Option (Taken K V) × List (K × V)
 taken es i = taken-at es i (nth es i)
-
--- no key of es has the value of k
-abbrev pub Absent : {K V W : Type 0} → (K → W) → List (K × V) → K → Type 0
-Absent {K} {V} value es k = (i : ℕ) (d : K × V) → i < length es → value (getD es i d .0) ≡ value k → ⊥
-
--- the key at i has the value of k
-abbrev pub Present : {K V W : Type 0} → (K → W) → List (K × V) → K → ℕ → Type 0
-Present {K} {V} value es k i = (i < length es) × ((d : K × V) → value (getD es i d .0) ≡ value k)
-
--- no key from place `low` on has the value of k
-abbrev pub Unseen : {K V W : Type 0} → (K → W) → List (K × V) → K → ℕ → Type 0
-Unseen {K} {V} value es k low =
-    (i : ℕ) (d : K × V) → low ≤ i → i < length es → value (getD es i d .0) ≡ value k → ⊥

@@ -1,7 +1,7 @@
 ghost use mathlib.Core.Path.{_≡_};
 ghost use Prim.Native.Nat.{ℕ, _/_, _<_, _≤_};
 ghost use lib.ListN.{length, getD, set};
-ghost use Rattle.table.specs.Slots.{pairs, nexts, headed, marked, at, two, none, Two-set};
+ghost use Rattle.table.specs.Slots.{pairs, nexts, headed, marked, at, two, none, Two-set, fresh-slot};
 ghost use Rattle.table.specs.Twins.{side-of, with-side};
 
 /// What a link holds where its chain ends.
@@ -50,9 +50,9 @@ pub struct Slot<K, V> {
 }
 
 impl<K, V> Slot<K, V> {
-    /// A slot for a memory that is to be lent. What it holds does not count.
+    /// A slot for a memory that is to be lent. A table over that memory does not count what it holds.
     pub fn new(key: K, value: V) -> Self
-        ensures entry { λ r. ⌜ (r .key ≡ key) × (r .value ≡ value) ⌝ }
+        ensures { λ r. ⌜ r ≡ fresh-slot key value ⌝ }
     {
         Slot {
             key,
@@ -160,7 +160,10 @@ pub(crate) fn vacate<K: Copy, V: Copy>(slots: &mut [Slot<K, V>], i: usize)
     slots[i] = Slot {
         key: s.key,
         value: s.value,
-        heads: Twin { even: NONE as u16, odd: NONE as u16 },
+        heads: Twin {
+            even: NONE as u16,
+            odd: NONE as u16,
+        },
         next: s.next,
         marks: Twin { even: 0, odd: 0 },
     };

@@ -9,4 +9,4 @@ pub returns : need.returns
 returns g c =
     c .get .ensures
     ∙ ap (λ (z : Twin ℕ). side-of z (c .args .b % 2))
-      (sym (getD-map (λ s. s .heads) (c .args .slots .now) (c .args .b / 2) (c .index-slots-b .result) (record { even = 0; odd = 0 }) (c .pre)))
+    (sym (getD-map (λ s. s .heads) (c .args .slots .now) (c .args .b / 2) (c .index-slots-b .result) (record { even = 0; odd = 0 }) (c .pre)))

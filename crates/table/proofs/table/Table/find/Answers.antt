@@ -15,14 +15,14 @@ seek-requires g c κs =
     let t = c .args .self .now in
     let cap = capacity-of (t .slots .now) in
     let w : c .vacancy-of-w .result ≡ vacancy cap (c .hash .result) =
-          c .vacancy-of-w .ensures ∙ ap (λ z. vacancy z (c .hash .result)) (c .capacity .ensures) in
-    record
-    { fits = c .pre .sound .fits
-    ; chained = c .pre .sound .chained
-    ; marks = c .pre .sound .marks
-    ; bucket =
-        omega (arith, ap (λ (z : Vacancy). z .home) w, home-below cap (c .hash .result) (omega (arith, c .pre .sound .fits)))
-    ; hashed = λ j e. ap (vacancy cap) (c .hash .ensures j e) ∙ sym w
+    c .vacancy-of-w .ensures ∙ ap (λ z. vacancy z (c .hash .result)) (c .capacity .ensures) in
+    record {
+      fits = c .pre .sound .fits;
+      chained = c .pre .sound .chained;
+      marks = c .pre .sound .marks;
+      bucket =
+          omega (arith, ap (λ (z : Vacancy). z .home) w, home-below cap (c .hash .result) (omega (arith, c .pre .sound .fits)));
+      hashed = λ j e. ap (vacancy cap) (c .hash .ensures j e) ∙ sym w;
     }
 
 pub returns-in-Some : need.returns-in-Some
@@ -37,8 +37,8 @@ returns-in-None g c =
     let t = c .args .self .now in
     let cap = capacity-of (t .slots .now) in
     let w : c .vacancy-of-w .result ≡ vacancy cap (g .K·NodeTrait .hashed (c .args .k .now)) =
-          c .vacancy-of-w .ensures
-          ∙ (ap (λ z. vacancy z (c .hash .result)) (c .capacity .ensures) ∙ ap (vacancy cap) (sym (c .hash .ensures (c .args .k .now) refl))) in
+    c .vacancy-of-w .ensures
+    ∙ (ap (λ z. vacancy z (c .hash .result)) (c .capacity .ensures) ∙ ap (vacancy cap) (sym (c .hash .ensures (c .args .k .now) refl))) in
     ap Err w
     ∙ sym (ap (λ z. found z (vacancy cap (g .K·NodeTrait .hashed (c .args .k .now))))
-      (absent-position (g .K·Compare .order) (g .K·Compare·met .ordered) (g .K·Compare .value) (entries t) (c .args .k .now) (c .in-None .ensures tt)))
+    (absent-position (g .K·Compare .order) (g .K·Compare·met .ordered) (g .K·Compare .value) (entries t) (c .args .k .now) (c .in-None .ensures tt)))

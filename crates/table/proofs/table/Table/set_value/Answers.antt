@@ -22,10 +22,10 @@ returns-then-i-self g c =
     let t = c .args .self .now in
     let s = t .slots .now in
     let n = length-entries s (t .len) (omega (arith, c .pre .sound .fits, within-memory s)) in
-    record
-    { sound = c .pre .sound
-    ; done = sym (ap (replaced-at (entries t) (c .args .i) (c .args .v)) (nth-past (entries t) (c .args .i) (omega arith)))
-    ; room = refl
+    record {
+      sound = c .pre .sound;
+      done = sym (ap (replaced-at (entries t) (c .args .i) (c .args .v)) (nth-past (entries t) (c .args .i) (omega arith)));
+      room = refl;
     }
 
 pub key-at-k-requires : need.key-at-k-requires
@@ -65,24 +65,24 @@ returns g c =
     let same : length s′ ≡ length s = omega arith in
     let cap : capacity-of s′ ≡ capacity-of s = same-capacity s s′ same in
     let hs : homes hashed (capacity-of s′) (pairs s′) ≡ homes hashed (capacity-of s) (pairs s) =
-          ap (λ z. homes hashed z (pairs s′)) cap
-          ∙ (ap (homes hashed (capacity-of s)) pair
-          ∙ kept (λ z. home (capacity-of s) (hashed (z .0))) (pairs s) i new old (ap (λ z. home (capacity-of s) (hashed z)) key)) in
+    ap (λ z. homes hashed z (pairs s′)) cap
+    ∙ (ap (homes hashed (capacity-of s)) pair
+    ∙ kept (λ z. home (capacity-of s) (hashed (z .0))) (pairs s) i new old (ap (λ z. home (capacity-of s) (hashed z)) key)) in
     let ts : tags hashed (pairs s′) ≡ tags hashed (pairs s) =
-          ap (tags hashed) pair ∙ kept (λ z. mark (hashed (z .0))) (pairs s) i new old (ap (λ z. mark (hashed z)) key) in
-    record
-    { sound = record
-        { fits = omega (arith, c .pre .sound .fits)
-        ; chained =
+    ap (tags hashed) pair ∙ kept (λ z. mark (hashed (z .0))) (pairs s) i new old (ap (λ z. mark (hashed z)) key) in
+    record {
+      sound = record {
+        fits = omega (arith, c .pre .sound .fits);
+        chained =
             rechained (capacity-of s) (capacity-of s′) (t .len) (homes hashed (capacity-of s) (pairs s)) (homes hashed (capacity-of s′) (pairs s′)) (headed s) (headed s′) (nexts s) (nexts s′)
-            cap hs (c .set-pair .ensures .heads) (c .set-pair .ensures .next) (c .pre .sound .chained)
-        ; marks =
+            cap hs (c .set-pair .ensures .heads) (c .set-pair .ensures .next) (c .pre .sound .chained);
+        marks =
             remarked (t .len) (homes hashed (capacity-of s) (pairs s)) (homes hashed (capacity-of s′) (pairs s′)) (tags hashed (pairs s)) (tags hashed (pairs s′)) (marked s) (marked s′)
-            hs ts (c .set-pair .ensures .marks) (c .pre .sound .marks)
-        ; apart = rw e (apart-set (g .K·Compare .value) (entries t) i k (c .args .v) (c .key-at-k .ensures) (c .pre .sound .apart))
-        }
-    ; done =
-        ap (λ z. (Some (c .value-at-old .result), z)) e
-        ∙ sym (ap (replaced-at (entries t) i (c .args .v)) (nth-getD (entries t) i old (omega arith) ∙ ap Some (sym was)))
-    ; room = cap
+            hs ts (c .set-pair .ensures .marks) (c .pre .sound .marks);
+        apart = rw e (apart-set (g .K·Compare .value) (entries t) i k (c .args .v) (c .key-at-k .ensures) (c .pre .sound .apart));
+      };
+      done =
+          ap (λ z. (Some (c .value-at-old .result), z)) e
+          ∙ sym (ap (replaced-at (entries t) i (c .args .v)) (nth-getD (entries t) i old (omega arith) ∙ ap Some (sym was)));
+      room = cap;
     }

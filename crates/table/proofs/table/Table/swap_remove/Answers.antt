@@ -22,10 +22,10 @@ returns-then-i-len g c =
     let t = c .args .self .now in
     let s = t .slots .now in
     let n = length-entries s (t .len) (omega (arith, c .pre .sound .fits, within-memory s)) in
-    record
-    { sound = c .pre .sound
-    ; done = sym (ap (taken-at (entries t) (c .args .i)) (nth-past (entries t) (c .args .i) (omega arith)))
-    ; room = refl
+    record {
+      sound = c .pre .sound;
+      done = sym (ap (taken-at (entries t) (c .args .i)) (nth-past (entries t) (c .args .i) (omega arith)));
+      room = refl;
     }
 
 pub key-at-requires : need.key-at-requires
@@ -43,12 +43,12 @@ value-at-requires g c κs =
     record { sound = c .pre .sound; place = omega arith }
 
 pub extract-requires : need.extract-requires
-extract-requires g c κs = record
-    { fits = c .pre .sound .fits
-    ; place = omega arith
-    ; chained = c .pre .sound .chained
-    ; marks = c .pre .sound .marks
-    }
+extract-requires g c κs = record {
+  fits = c .pre .sound .fits;
+  place = omega arith;
+  chained = c .pre .sound .chained;
+  marks = c .pre .sound .marks;
+}
 
 pub returns : need.returns
 returns g c =
@@ -62,16 +62,16 @@ returns g c =
     let old : g .K .Denot × g .V .Denot = (c .key-at .result, c .value-at .result) in
     let was : old ≡ getD (entries t) i old = pair-is _ _ _ (c .key-at .ensures old) (c .value-at .ensures old) in
     let cap : capacity-of s′ ≡ capacity-of s = same-capacity s s′ (omega arith) in
-    record
-    { sound = record
-        { fits = omega (arith, c .pre .sound .fits)
-        ; chained = a .chained
-        ; marks = a .marks
-        ; apart = rw (a .entries) (apart-swap-removed (g .K·Compare .value) (entries t) i (c .pre .sound .apart) il)
-        }
-    ; done =
-        ap (λ z. (Some (record { entry = old; last = t .len - 1; gap = i }), z)) (a .entries)
-        ∙ (ap (λ z. (Some (record { entry = old; last = z - 1; gap = i }), swap-removed (entries t) i)) (sym n)
-        ∙ sym (ap (taken-at (entries t) i) (nth-getD (entries t) i old il ∙ ap Some (sym was))))
-    ; room = cap
+    record {
+      sound = record {
+        fits = omega (arith, c .pre .sound .fits);
+        chained = a .chained;
+        marks = a .marks;
+        apart = rw (a .entries) (apart-swap-removed (g .K·Compare .value) (entries t) i (c .pre .sound .apart) il);
+      };
+      done =
+          ap (λ z. (Some (record { entry = old; last = t .len - 1; gap = i }), z)) (a .entries)
+          ∙ (ap (λ z. (Some (record { entry = old; last = z - 1; gap = i }), swap-removed (entries t) i)) (sym n)
+          ∙ sym (ap (taken-at (entries t) i) (nth-getD (entries t) i old il ∙ ap Some (sym was))));
+      room = cap;
     }
