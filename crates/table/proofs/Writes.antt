@@ -10,11 +10,9 @@ use lib.ListN.{length, set}
 use Rattle.lists.specs.Chains.{Above, Put, Chains}
 use Rattle.table.specs.declared.slot.Twin.{Twin}
 use Rattle.table.specs.declared.slot.Slot.{Slot}
-use Rattle.table.specs.Slots.{pairs, at, two, Two-set}
+use Rattle.table.specs.Slots.{pairs, at, two, none, Two-set}
 use Rattle.std.proofs.shelf.Tests.{cases-eq, cond-true, cond-false, eq-eqb, ne-eqb}
 use Rattle.lists.specs.Latest.{latest}
-use Rattle.lists.proofs.Latest.{latest-range}
-use Rattle.table.specs.Slots.{none}
 use Rattle.table.specs.Index.{homes, bit-of, off, held, capacity-of, bucket-of}
 use Rattle.table.proofs.Lists.{at-set, at-other, at-same}
 
@@ -67,10 +65,6 @@ held-latest buckets n b p h f x L bl pn here =
           let e : h p ≡ b = here (omega arith) in
           cond-false (eqb p n) _ _ (ne-eqb p n ne) ∙ (L .links p (omega arith) (omega arith) ∙ ap (λ z. latest none h z p) e)
     ]
-
--- a link is a place or none
-pub latest-fits : (h : ℕ → ℕ) (b p : ℕ) → p ≤ none → latest none h b p ≤ none
-latest-fits h b p le = elim (latest-range none h b p) [ inl e ↦ omega arith | inr lt ↦ omega arith ]
 
 -- the holder does not depend on the bucket of g itself
 pub above-off : (buckets n b g p : ℕ) (h : ℕ → ℕ) → Above n h b g p → Above n (off buckets g h) b g p

@@ -51,7 +51,8 @@ fn holds<K: Copy, V: Copy>(slots: &[Slot<K, V>], n: usize, b: usize, p: usize) -
     requires small { ⌜ n ≤ length (now slots) ⌝ }
     requires bucket { ⌜ b / 2 < length (now slots) ⌝ }
     requires holder { ⌜ p ≤ n ⌝ }
-    ensures { λ r. ⌜ r ≡ held n (two (headed (now (slots .entry)))) (at (nexts (now (slots .entry)))) b p ⌝ }
+    ensures value { λ r. ⌜ r ≡ held n (two (headed (now (slots .entry)))) (at (nexts (now (slots .entry)))) b p ⌝ }
+    ensures fits { λ r. ⌜ r ≤ 65535 ⌝ }
 {
     if p == n {
         head_of(slots, b)

@@ -18,7 +18,9 @@ impl<T: Copy> Twin<T> {
     fn get(self, side: usize) -> T
         ensures { λ r. ⌜ r ≡ side-of self side ⌝ }
     {
-        if side == 0 { self.even } else { self.odd }
+        // Both are read first, so that the choice needs no branch.
+        let Twin { even, odd } = self;
+        if side == 0 { even } else { odd }
     }
 
     fn with(self, side: usize, x: T) -> Self
@@ -67,7 +69,8 @@ impl<K, V> Slot<K, V> {
 // The first place of bucket `b`.
 pub(crate) fn head_of<K: Copy, V: Copy>(slots: &[Slot<K, V>], b: usize) -> usize
     requires { ⌜ b / 2 < length (now slots) ⌝ }
-    ensures { λ r. ⌜ r ≡ two (headed (now (slots .entry))) b ⌝ }
+    ensures value { λ r. ⌜ r ≡ two (headed (now (slots .entry))) b ⌝ }
+    ensures fits { λ r. ⌜ r ≤ 65535 ⌝ }
 {
     slots[b / 2].heads.get(b % 2) as usize
 }
@@ -81,7 +84,8 @@ pub(crate) fn marks_of<K: Copy, V: Copy>(slots: &[Slot<K, V>], b: usize) -> u8
 
 pub(crate) fn next_of<K: Copy, V: Copy>(slots: &[Slot<K, V>], i: usize) -> usize
     requires { ⌜ i < length (now slots) ⌝ }
-    ensures { λ r. ⌜ r ≡ at (nexts (now (slots .entry))) i ⌝ }
+    ensures value { λ r. ⌜ r ≡ at (nexts (now (slots .entry))) i ⌝ }
+    ensures fits { λ r. ⌜ r ≤ 65535 ⌝ }
 {
     slots[i].next as usize
 }

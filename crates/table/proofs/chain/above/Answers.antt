@@ -18,7 +18,7 @@ loop-link-holds g c = (
   c .pre .place,
   omega arith,
   λ lt. let no : ⊥ = omega arith in absurd no,
-  (c .pre .chained, c .head-of-link .ensures ∙ c .pre .chained .chains .heads (c .args .b) (c .pre .bucket)),
+  (c .pre .chained, c .head-of-link .ensures .value ∙ c .pre .chained .chains .heads (c .args .b) (c .pre .bucket)),
 )
 
 pub next-of-link-requires : need.next-of-link-requires
@@ -45,7 +45,7 @@ loop-link-again g c =
       c .if-link-g .taken,
       omega arith,
       λ _. sym (C .agrees link (omega arith)) ∙ h .1,
-      (C, link-next none _ (c .args .n) _ _ _ (C .chains) small (c .args .b) (c .pre .bucket) link (c .next-of-link .result) low (h .1) (c .next-of-link .ensures)),
+      (C, link-next none _ (c .args .n) _ _ _ (C .chains) small (c .args .b) (c .pre .bucket) link (c .next-of-link .result) low (h .1) (c .next-of-link .ensures .value)),
     )
 
 pub returns-else-link-g : need.returns-else-link-g

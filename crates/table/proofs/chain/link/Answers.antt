@@ -4,14 +4,13 @@ use mathlib.Core.List.{List}
 use Prim.Native.Nat.{ℕ, _*_, _<_, _≤_}
 use lib.ListN.{length}
 use Rattle.std.proofs.shelf.Lists.{length-map}
-use Rattle.lists.specs.Latest.{latest}
-use Rattle.lists.specs.Chains.{Above, Put}
+use Rattle.lists.specs.Chains.{Above}
 use Rattle.lists.proofs.Chains.{linked}
 use Rattle.table.specs.Slots.{pairs, headed, nexts, at, two, none}
-use Rattle.table.specs.Index.{bucket-of, capacity-of, off, held}
+use Rattle.table.specs.Index.{bucket-of, capacity-of, off}
 use Rattle.table.proofs.Capacity.{within-memory, within-links, bucket-slot}
 use Rattle.table.proofs.Lists.{at-set, at-other}
-use Rattle.table.proofs.Writes.{same-capacity, off-here, off-other, settled, held-latest, latest-fits, above-off, put-after}
+use Rattle.table.proofs.Writes.{same-capacity, off-here, off-other, settled, held-latest, above-off, put-after}
 use Rattle.table.proofs.chain.link.Needs as need
 
 pub above-p-requires : need.above-p-requires
@@ -39,23 +38,10 @@ holds-v-requires g c κs =
     }
 
 pub set-next-requires : need.set-next-requires
-set-next-requires g c κs =
-    let s = c .args .slots .now in
-    let n = c .args .n in
-    let buckets = 2 * capacity-of s in
-    let h = off buckets (c .args .g) (bucket-of (g .K·NodeTrait .hashed) s) in
-    let A : Above n h (c .args .b) (c .args .g) (c .above-p .result) =
-    above-off buckets n (c .args .b) (c .args .g) (c .above-p .result) _ (c .above-p .ensures) in
-    record {
-      within = omega (arith, c .pre .place, c .pre .small, within-memory s);
-      fits =
-          omega (
-            arith,
-            c .holds-v .ensures,
-            held-latest buckets n (c .args .b) (c .above-p .result) h _ _ (c .pre .chained) (c .pre .bucket) (A .within) (A .here),
-            latest-fits h (c .args .b) (c .above-p .result) (omega (arith, A .within, c .pre .small, within-links s)),
-          );
-    }
+set-next-requires g c κs = record {
+  within = omega (arith, c .pre .place, c .pre .small, within-memory (c .args .slots .now));
+  fits = c .holds-v .ensures .fits;
+}
 
 pub put-requires : need.put-requires
 put-requires g c κs =
@@ -85,7 +71,7 @@ returns g c =
           (linked none buckets n (c .args .b) (c .args .g) (c .above-p .result) (c .holds-v .result) (off buckets (c .args .g) h) (two (headed s)) (at (nexts s))
           h (two (headed t)) (at (nexts r)) (at (nexts t))
           (omega (arith, c .pre .small, within-links s)) (c .pre .chained) A (c .pre .place) (c .pre .bucket) (omega (arith, off-here buckets (c .args .g) h))
-          (c .holds-v .ensures ∙ held-latest buckets n (c .args .b) (c .above-p .result) _ _ _ (c .pre .chained) (c .pre .bucket) (A .within) (A .here))
+          (c .holds-v .ensures .value ∙ held-latest buckets n (c .args .b) (c .above-p .result) _ _ _ (c .pre .chained) (c .pre .bucket) (A .within) (A .here))
           (at-set (nexts s) (nexts r) (c .args .g) _ (c .set-next .ensures .next) (simp length-map (omega (arith, c .pre .place, c .pre .small, within-memory s))))
           (at-other (nexts s) (nexts r) (c .args .g) _ (c .set-next .ensures .next))
           (put-after n (c .args .b) (c .above-p .result) (c .args .g) (headed s) (headed r) _ _ _ (c .set-next .ensures .heads) (c .put .ensures .put))

@@ -6,7 +6,7 @@ use Rattle.lists.proofs.Chains.{unlinked}
 use Rattle.table.specs.Slots.{pairs, headed, nexts, at, two, none}
 use Rattle.table.specs.Index.{bucket-of, capacity-of, off}
 use Rattle.table.proofs.Capacity.{within-memory, within-links, bucket-slot}
-use Rattle.table.proofs.Writes.{same-capacity, off-here, off-other, settled-off, latest-fits}
+use Rattle.table.proofs.Writes.{same-capacity, off-here, off-other, settled-off}
 use Rattle.table.proofs.chain.unlink.Needs as need
 
 pub above-p-requires : need.above-p-requires
@@ -23,19 +23,11 @@ next-of-v-requires g c κs = omega (arith, c .pre .place, c .pre .small, within-
 pub put-requires : need.put-requires
 put-requires g c κs =
     let s = c .args .slots .now in
-    let h = bucket-of (g .K·NodeTrait .hashed) s in
-    let e = c .pre .chained .links (c .args .g) (c .pre .place) (omega (arith, c .pre .home, c .pre .bucket)) in
     record {
       small = omega (arith, c .pre .small, within-memory s);
       bucket = bucket-slot s (c .args .b) (c .pre .bucket);
       holder = c .above-p .ensures .within;
-      fits =
-          omega (
-            arith,
-            c .next-of-v .ensures,
-            e,
-            latest-fits h (h (c .args .g)) (c .args .g) (omega (arith, c .pre .place, c .pre .small, within-links s)),
-          );
+      fits = c .next-of-v .ensures .fits;
     }
 
 pub returns : need.returns
@@ -53,7 +45,7 @@ returns g c =
           (unlinked none buckets n (c .args .b) (c .args .g) (c .above-p .result) (c .next-of-v .result) h (two (headed s)) (at (nexts s))
           (off buckets (c .args .g) h) (two (headed t)) (at (nexts t))
           (omega (arith, c .pre .small, within-links s)) (c .pre .chained) (c .above-p .ensures) (c .pre .place) (c .pre .bucket) (c .pre .home)
-          (c .next-of-v .ensures) (c .put .ensures .put) (omega (arith, off-here buckets (c .args .g) h)) (off-other buckets (c .args .g) h));
+          (c .next-of-v .ensures .value) (c .put .ensures .put) (omega (arith, off-here buckets (c .args .g) h)) (off-other buckets (c .args .g) h));
       marks = c .put .ensures .marks;
       pair = c .put .ensures .pair;
     }

@@ -7,23 +7,18 @@ use Rattle.lists.specs.Chains.{Chains}
 use Rattle.lists.proofs.Chains.{popped}
 use Rattle.table.specs.Slots.{pairs, headed, nexts, at, two, none}
 use Rattle.table.specs.Index.{bucket-of, capacity-of}
-use Rattle.table.proofs.Capacity.{within-memory, within-links, bucket-slot}
-use Rattle.table.proofs.Writes.{same-capacity, settled, latest-fits, relinked}
+use Rattle.table.proofs.Capacity.{within-memory, bucket-slot}
+use Rattle.table.proofs.Writes.{same-capacity, settled, relinked}
 use Rattle.table.proofs.index.detach.Needs as need
 
 pub next-of-after-requires : need.next-of-after-requires
 next-of-after-requires g c κs = omega (arith, c .pre .fits, within-memory (c .args .slots .now))
 
 pub set-head-requires : need.set-head-requires
-set-head-requires g c κs =
-    let s = c .args .slots .now in
-    let last = c .args .last in
-    let h = bucket-of (g .K·NodeTrait .hashed) s in
-    let e = c .pre .chained .links last (omega arith) (omega (arith, c .pre .home, c .pre .bucket)) in
-    record {
-      within = bucket-slot s (c .args .b) (c .pre .bucket);
-      fits = omega (arith, c .next-of-after .ensures, e, latest-fits h (h last) last (omega (arith, c .pre .fits, within-links s)));
-    }
+set-head-requires g c κs = record {
+  within = bucket-slot (c .args .slots .now) (c .args .b) (c .pre .bucket);
+  fits = c .next-of-after .ensures .fits;
+}
 
 pub returns : need.returns
 returns g c =
@@ -39,7 +34,7 @@ returns g c =
           (same-capacity s t (omega arith)) (c .set-head .ensures .pair)
           (relinked buckets last h (two (headed t)) (nexts s) (nexts t) (c .set-head .ensures .next)
           (popped none buckets last (c .args .b) h (two (headed s)) (at (nexts s)) (two (headed t)) L (c .pre .home) (c .pre .bucket)
-          (c .set-head .ensures .heads .here ∙ c .next-of-after .ensures) (c .set-head .ensures .heads .there)));
+          (c .set-head .ensures .heads .here ∙ c .next-of-after .ensures .value) (c .set-head .ensures .heads .there)));
       marks = c .set-head .ensures .marks;
       pair = c .set-head .ensures .pair;
     }

@@ -11,12 +11,12 @@ use Rattle.lists.specs.Chains.{Chains}
 use Rattle.lists.proofs.Chains.{pushed}
 use Rattle.table.specs.declared.table.Vacancy.{Vacancy}
 use Rattle.table.specs.Slots.{pairs, headed, marked, nexts, at, two, none}
-use Rattle.table.specs.Index.{bucket-of, capacity-of, homes, tags, bit-of}
+use Rattle.table.specs.Index.{capacity-of, homes, tags, bit-of}
 use Rattle.table.proofs.Capacity.{within-memory, within-links, bucket-slot}
 use Rattle.table.proofs.Lists.{at-set, at-other}
 use Rattle.table.proofs.Marks.{marks-pushed}
 use Rattle.table.proofs.Moves.{written-home, other-home, written-tag, other-tag}
-use Rattle.table.proofs.Writes.{same-capacity, settled, latest-fits, two-same}
+use Rattle.table.proofs.Writes.{same-capacity, settled, two-same}
 use Rattle.table.proofs.index.enter.Needs as need
 
 pub set-pair-requires : need.set-pair-requires
@@ -26,20 +26,10 @@ pub head-of-head-requires : need.head-of-head-requires
 head-of-head-requires g c κs = omega (arith, bucket-slot (c .args .slots .now) (c .args .w .home) (c .pre .bucket))
 
 pub set-next-requires : need.set-next-requires
-set-next-requires g c κs =
-    let s = c .args .slots .now in
-    let b = c .args .w .home in
-    record {
-      within = omega (arith, c .pre .fits, within-memory s);
-      fits =
-          omega (
-            arith,
-            c .head-of-head .ensures,
-            two-same (headed s) (headed (c .set-pair .last .slots)) (c .set-pair .ensures .heads) b,
-            c .pre .chained .heads b (c .pre .bucket),
-            latest-fits (bucket-of (g .K·NodeTrait .hashed) s) b (c .args .len) (omega (arith, c .pre .fits, within-links s)),
-          );
-    }
+set-next-requires g c κs = record {
+  within = omega (arith, c .pre .fits, within-memory (c .args .slots .now));
+  fits = c .head-of-head .ensures .fits;
+}
 
 pub set-head-requires : need.set-head-requires
 set-head-requires g c κs = record {
@@ -88,7 +78,7 @@ returns g c =
     let L : Chains none (2 * cap) (suc len) h′ (two (headed t)) (at (nexts t)) =
     pushed none (2 * cap) len b (at (homes hashed cap (pairs s))) (two (headed s)) (at (nexts s)) h′ (two (headed t)) (at (nexts t)) (c .pre .chained)
     at-home (other-home len (pairs s) (pairs t) e pair hashed cap)
-    (at-set (nexts s) (nexts t) len _ next in-nexts ∙ (c .head-of-head .ensures ∙ two-same (headed s) (headed p) (c .set-pair .ensures .heads) b))
+    (at-set (nexts s) (nexts t) len _ next in-nexts ∙ (c .head-of-head .ensures .value ∙ two-same (headed s) (headed p) (c .set-pair .ensures .heads) b))
     (at-other (nexts s) (nexts t) len _ next)
     (after b ∙ c .set-head .ensures .heads .here) (λ x ne. after x ∙ (c .set-head .ensures .heads .there x ne ∙ before x)) in
     record {

@@ -28,7 +28,7 @@ returns-then-head-of-eq-NONE g c =
       arith,
       latest-covers none h (c .args .b) n i lt e .0,
       c .pre .chained .heads (c .args .b) (c .pre .bucket),
-      c .head-of .ensures,
+      c .head-of .ensures .value,
       c .if-head-of-eq-NONE .taken,
       c .pre .fits,
       within-links s,

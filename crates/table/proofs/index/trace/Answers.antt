@@ -19,7 +19,7 @@ loop-link-holds g c =
     let n = length-entries s (c .args .len) (omega (arith, c .pre .fits, within-memory s)) in (
       c .args .len,
       omega arith,
-      c .head-of-link .ensures ∙ c .pre .chained .heads (c .args .b) (c .pre .bucket),
+      c .head-of-link .ensures .value ∙ c .pre .chained .heads (c .args .b) (c .pre .bucket),
       λ i d ge lt e. omega arith,
     )
 
@@ -79,7 +79,7 @@ loop-link-less g c =
     (c .loop-link .inv .1) (c .loop-link .inv .2) (c .loop-link-test .taken) in
     let low : c .loop-link .link < len = omega (arith, h .0, c .loop-link .inv .1) in
     link-falls (c .loop-link .link) (c .next-of-link .result) (omega arith)
-    (link-range none _ _ _ _ (link-next none _ len _ _ _ (c .pre .chained) small (c .args .b) (c .pre .bucket) (c .loop-link .link) (c .next-of-link .result) low (h .1) (c .next-of-link .ensures)))
+    (link-range none _ _ _ _ (link-next none _ len _ _ _ (c .pre .chained) small (c .args .b) (c .pre .bucket) (c .loop-link .link) (c .next-of-link .result) low (h .1) (c .next-of-link .ensures .value)))
 
 pub loop-link-again : need.loop-link-again
 loop-link-again g c =
@@ -95,7 +95,7 @@ loop-link-again g c =
     let n = length-entries s len fits in (
       link,
       omega arith,
-      link-next none _ len _ _ _ (c .pre .chained) small (c .args .b) (c .pre .bucket) link (c .next-of-link .result) low (h .1) (c .next-of-link .ensures),
+      link-next none _ len _ _ _ (c .pre .chained) small (c .args .b) (c .pre .bucket) link (c .next-of-link .result) low (h .1) (c .next-of-link .ensures .value),
       λ i d ge lt e.
           let past =
           unseen-past (g .K·Compare .value) (g .K·NodeTrait .hashed) s len (capacity-of s) (c .args .b) fits (c .args .k .now) (c .pre .hashed)
