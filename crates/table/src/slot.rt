@@ -18,9 +18,7 @@ impl<T: Copy> Twin<T> {
     fn get(self, side: usize) -> T
         ensures { λ r. ⌜ r ≡ side-of self side ⌝ }
     {
-        // Both are read first, so that the choice needs no branch.
-        let Twin { even, odd } = self;
-        if side == 0 { even } else { odd }
+        if side == 0 { self.even } else { self.odd }
     }
 
     fn with(self, side: usize, x: T) -> Self
