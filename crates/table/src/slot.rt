@@ -77,7 +77,11 @@ pub(crate) fn marks_of<K: Copy, V: Copy>(slots: &[Slot<K, V>], b: usize) -> u8
     requires { ⌜ b / 2 < length (now slots) ⌝ }
     ensures { λ r. ⌜ r ≡ two (marked (now (slots .entry))) b ⌝ }
 {
-    slots[b / 2].marks.get(b % 2)
+    if b % 2 == 0 {
+        slots[b / 2].marks.even
+    } else {
+        slots[b / 2].marks.odd
+    }
 }
 
 pub(crate) fn next_of<K: Copy, V: Copy>(slots: &[Slot<K, V>], i: usize) -> usize
