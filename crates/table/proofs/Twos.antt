@@ -13,10 +13,10 @@ use Rattle.table.specs.declared.slot.Twin.{Twin}
 use Rattle.table.specs.Twins.{side-of, with-side}
 use Rattle.table.specs.Slots.{two, Two-set}
 
-pub side-even : {T : Type 0} (t : Twin T) (s : ℕ) → s ≡ 0 → side-of t s ≡ t .even
+side-even : {T : Type 0} (t : Twin T) (s : ℕ) → s ≡ 0 → side-of t s ≡ t .even
 side-even t s e = cond-true (eqb s 0) _ _ (eq-eqb s 0 e)
 
-pub side-odd : {T : Type 0} (t : Twin T) (s : ℕ) → (s ≡ 0 → ⊥) → side-of t s ≡ t .odd
+side-odd : {T : Type 0} (t : Twin T) (s : ℕ) → (s ≡ 0 → ⊥) → side-of t s ≡ t .odd
 side-odd t s ne = cond-false (eqb s 0) _ _ (ne-eqb s 0 ne)
 
 with-same : {T : Type 0} (t : Twin T) (s : ℕ) (x : T) → side-of (with-side t s x) s ≡ x

@@ -18,7 +18,9 @@ impl<T: Copy> Twin<T> {
     fn get(self, side: usize) -> T
         ensures { λ r. ⌜ r ≡ side-of self side ⌝ }
     {
-        if side == 0 { self.even } else { self.odd }
+        // Both are read first, so that the choice needs no branch.
+        let Twin { even, odd } = self;
+        if side == 0 { even } else { odd }
     }
 
     fn with(self, side: usize, x: T) -> Self
@@ -77,11 +79,7 @@ pub(crate) fn marks_of<K: Copy, V: Copy>(slots: &[Slot<K, V>], b: usize) -> u8
     requires { ⌜ b / 2 < length (now slots) ⌝ }
     ensures { λ r. ⌜ r ≡ two (marked (now (slots .entry))) b ⌝ }
 {
-    if b % 2 == 0 {
-        slots[b / 2].marks.even
-    } else {
-        slots[b / 2].marks.odd
-    }
+    slots[b / 2].marks.get(b % 2)
 }
 
 pub(crate) fn next_of<K: Copy, V: Copy>(slots: &[Slot<K, V>], i: usize) -> usize
