@@ -11,6 +11,7 @@ import glob, re, sys
 
 TOKEN = re.compile(r"(?<![\w'])([A-Za-z_][\w']*(?:-[A-Za-z0-9_*'ℕ][\w'*]*)+)")
 HEAD = re.compile(r"^\s*(?:(?:abbrev|unfoldable|pub|data|record|ruleset)\s+)*([A-Za-z][\w']*(?:-[\w']+)+)\s*(?=[:({]|$)(.*)$")
+LIBRARY = re.compile(r"use (?:Rattle\.std|borrow|logic)[\w.]*\.\{([^}]*)\}")
 GOAL = re.compile(r":\s*(goal|need)\.")
 ALIAS = re.compile(r"\bas\s+([A-Za-z][\w']*(?:-[\w']+)+)")
 
@@ -29,6 +30,8 @@ def own_names():
     """The dashed names that the repository defines, and those of them that are fields of a record."""
     names, fields, made = set(), set(), set()
     for path in antt_files():
+        for imported in LIBRARY.findall(open(path, encoding="utf-8").read()):
+            made.update(re.findall(r"[^\s,]+", imported))
         in_record = False
         for line in open(path, encoding="utf-8"):
             code = line.split("--")[0].rstrip()

@@ -1,6 +1,6 @@
 -- The entries of the node table beside their rows.
 use Rattle.std.proofs.Common.{◌≡◌, ℕ, ◌<◌, ◌≤◌, List, [], ◌∷◌, ◌++◌, map, length, get_or, set, Option, sym, refl, ap, ◌∙◌, subst, arith}
-use Rattle.std.proofs.lemmas.List.{get_or_map, length-map}
+use Rattle.std.proofs.lemmas.List.{get_or-map, length-map}
 use Rattle.std.proofs.lemmas.Option.{slice_get-get_or}
 use Rattle.std.specs.List.{slice_get}
 use Rattle.table.specs.Tables.{replaced, replaced_at}
@@ -13,7 +13,7 @@ pub rowed_length : {N : Type 0} (mem : List (Cell N)) (es : List (N × RowHead))
 rowed_length mem es = length-map es _
 
 pub row_read : {N : Type 0} (mem : List (Cell N)) (es : List (N × RowHead)) (j : ℕ) (e : N × RowHead) → j < length es → get_or (rowed mem es) j (e.0, []) ≡ ((get_or es j e).0, listed mem (get_or es j e).1)
-row_read mem es j e l = get_or_map (λ x. (x.0, listed mem x.1)) es j e (e.0, []) l
+row_read mem es j e l = get_or-map (λ x. (x.0, listed mem x.1)) es j e (e.0, []) l
 
 -- some element of a list that has one
 pub some_of : {X : Type 0} (xs : List X) (i : ℕ) → i < length xs → X

@@ -1,7 +1,7 @@
 -- One row of many is edited over one memory: the others stay.
 use Rattle.std.proofs.Common.{◌≡◌, ℕ, zero, suc, ◌+◌, ◌<◌, ◌≤◌, eqb, List, [], ◌∷◌, ◌++◌, map, length, get_or, set, sym, refl, ap, ◌∙◌, subst, ⊎_elim, arith}
 use lib.Seq.{map-set}
-use Rattle.std.proofs.lemmas.List.{get_or-set_same, get_or-set_other, get_or_map, length-set, same_lists}
+use Rattle.std.proofs.lemmas.List.{get_or-set_same, get_or-set_other, get_or-map, length-set, same_lists}
 use Rattle.std.proofs.lemmas.Bool.{cases_eq}
 use Rattle.model.specs.Lists.{bit}
 use Rattle.model.proofs.Tallies.{tally_one, tally_two}
@@ -50,9 +50,9 @@ module _ {N : Type 0} (mem mem' : List (Cell N)) (es : List (N × RowHead)) (i :
       (λ j d l ne.
       let e : N × RowHead = (d.0, bare) in
       let m : j < length es = omega (arith, rowed_length mem' es) in
-      get_or_map (λ x. (x.0, listed mem' x.1)) es j e d m
+      get_or-map (λ x. (x.0, listed mem' x.1)) es j e d m
       ∙ ap (λ xs. ((get_or es j e).0, xs)) (other_listed mem mem' (get_or es j e).1 ys (R j e m) same small kept (apart_row j e m ne))
-      ∙ sym (get_or_map (λ x. (x.0, listed mem x.1)) es j e d m))
+      ∙ sym (get_or-map (λ x. (x.0, listed mem x.1)) es j e d m))
 
 -- where each cell stands once at most, one that stands in another row does not stand in this one
 module _ {N : Type 0} (mem : List (Cell N)) (es : List (N × RowHead)) (alone : (x : ℕ) → standing x (rowed mem es) ≤ 1) where

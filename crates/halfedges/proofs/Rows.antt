@@ -1,7 +1,7 @@
 -- One row of many is put in the place of another.
 use Rattle.std.proofs.Common.{◌≡◌, ℕ, ◌+◌, ◌<◌, ◌≤◌, Bool, List, [], ◌∷◌, ◌++◌, map, length, get_or, set, Some, None, sym, refl, ap, ◌∙◌, subst, ⊎_elim, arith}
 use lib.Seq.{map-set}
-use Rattle.std.proofs.lemmas.List.{get_or-set_same, get_or-set_other, length-set, get_or_map, length-map, get_or_append_left, get_or_push, length_push, map-append}
+use Rattle.std.proofs.lemmas.List.{get_or-set_same, get_or-set_other, length-set, get_or-map, length-map, get_or_append_left, get_or_push, length_push, map-append}
 use Rattle.std.proofs.lemmas.Bool.{cases_eq, cases_lt}
 use Rattle.keys.specs.declared.kinds.Direction.{Direction}
 use Rattle.lists.specs.Positions.{position}
@@ -23,7 +23,7 @@ pub length_noded : {N : Type 0} (ks : List N) (ns : List (N × List ℕ)) → le
 length_noded ks ns = length-map ns _
 
 pub noded_read : {N : Type 0} (d : N) (ks : List N) (ns : List (N × List ℕ)) (i : ℕ) → i < length ns → get_or (noded ks ns) i (d, []) ≡ ((get_or ns i (d, [])).0, told ks (row_at ns i d))
-noded_read d ks ns i l = get_or_map _ ns i (d, []) (d, []) l
+noded_read d ks ns i l = get_or-map _ ns i (d, []) (d, []) l
 
 -- a node is found by its key, whatever its row
 pub position_noded : {N V : Type 0} (K : Keys N V) (v : V) (ks : List N) (ns : List (N × List ℕ)) → position (is_node K v) (noded ks ns) ≡ position (λ n. eq K (K.value n.0) v) ns

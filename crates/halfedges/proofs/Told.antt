@@ -1,7 +1,7 @@
 -- The entries of a row, as its cells or their keys change.
 use Rattle.std.proofs.Common.{◌≡◌, ℕ, zero, suc, ◌+◌, ◌<◌, ◌≤◌, Bool, eqb, List, [], ◌∷◌, ◌++◌, map, length, get_or, take, set, Some, None, sym, refl, ap, ◌∙◌, subst, arith}
 use lib.Seq.{map-set}
-use Rattle.std.proofs.lemmas.List.{get_or_default, map-append, get_or_map, length-map, take-map, set-get_or}
+use Rattle.std.proofs.lemmas.List.{get_or_default, map-append, get_or-map, length-map, take-map, set-get_or}
 use Rattle.std.proofs.lemmas.Bool.{eq-eqb, ne_eqb}
 use Rattle.keys.specs.declared.kinds.Direction.{Direction}
 use Rattle.lists.specs.Positions.{position}
@@ -24,7 +24,7 @@ map_swap_removed f (x ∷ xs) k =
     let last = get_or (x ∷ xs) (length xs) x in
     sym (take-map f (length xs) (set (x ∷ xs) k last))
     ∙ ap (take (length xs)) (map-set f (x ∷ xs) k last)
-    ∙ ap (λ y. take (length xs) (set (map f (x ∷ xs)) k y)) (sym (get_or_map f (x ∷ xs) (length xs) x (f x) (omega arith)))
+    ∙ ap (λ y. take (length xs) (set (map f (x ∷ xs)) k y)) (sym (get_or-map f (x ∷ xs) (length xs) x (f x) (omega arith)))
     ∙ ap (λ n. take n (set (map f (x ∷ xs)) k (get_or (map f (x ∷ xs)) n (f x)))) (sym (length-map xs f))
 
 -- the entry of a cell
@@ -60,7 +60,7 @@ told_set d [] xs k c new lk e lc ln same sides = absurd (omega arith)
 told_set {N} d (n ∷ ns) xs k c new lk e lc ln same sides =
     let f : ℕ → N × Direction = λ x. (get_or (n ∷ ns) x n, side x) in
     let same' : get_or (n ∷ ns) new n ≡ get_or (n ∷ ns) c n = get_or_default (n ∷ ns) new n d ln ∙ same ∙ get_or_default (n ∷ ns) c d n lc in
-    let at : f new ≡ get_or (map f xs) k (f c) = (λ i. (same' i, sides i)) ∙ sym (get_or_map f xs k none (f c) lk ∙ ap f e) in
+    let at : f new ≡ get_or (map f xs) k (f c) = (λ i. (same' i, sides i)) ∙ sym (get_or-map f xs k none (f c) lk ∙ ap f e) in
     map-set f xs k new ∙ ap (set (map f xs) k) at ∙ set-get_or (map f xs) k (f c)
 
 -- keys that are the same at the cells of a row

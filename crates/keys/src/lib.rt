@@ -1,3 +1,5 @@
+#![tactic(auto)]
+
 pub mod edges;
 pub mod kinds;
 pub mod nodes;

@@ -1,7 +1,6 @@
 ghost use Rattle.std.specs.Prelude.{◌≡◌, ℕ};
 ghost use Rattle.keys.specs.Hashes.{spread_of, fold_of, packed_of, seat_hash, pair_hash};
 ghost use Rattle.keys.specs.Nodes.{by_number, by_both, by_seat};
-ghost use Rattle.std.proofs.Common.{rules};
 ghost use Rattle.keys.specs.Laws.{number_laws, pair_laws};
 
 use crate::order::{Compare, NodeTrait};
@@ -18,7 +17,7 @@ impl Compare for Account {
 
     ghost order = { by_number };
 
-    ghost ordered = { Prim.search rules };
+    ghost ordered = { number_laws };
 
     fn compare(&self, other: &Account) -> Ordering {
         self.0.cmp(&other.0)

@@ -1,5 +1,7 @@
 // Reads commands from the standard input, one a line, carries each out on a table of links, and
 // answers it with what was done.
+#![tactic(auto)]
+
 ghost use Rattle.table.specs.Tables.{Sound};
 ghost use Rattle.linktable.specs.Links.{key_value, key_hash};
 

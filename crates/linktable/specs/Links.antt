@@ -1,5 +1,5 @@
 -- What each command answers, and the links then. A link is a pair of accounts with a price.
-use Rattle.std.specs.Prelude.{ℕ, ◌-◌, Bool, cond, List, [], length, Some, None, Option, ◌==◌}
+use Rattle.std.specs.Prelude.{ℕ, cond, List, [], length, Some, None, Option, ◌==◌}
 use Rattle.std.specs.List.{slice_get}
 use Rattle.keys.specs.Hashes.{spread_of, pair_hash}
 use Rattle.keys.specs.Nodes.{by_number, by_both}
@@ -8,7 +8,6 @@ use Rattle.keys.specs.declared.nodes.Account.{Account}
 use Rattle.keys.specs.declared.weights.Price.{Price}
 use Rattle.keys.specs.declared.refusals.Refusal.TheVariants.{LinksFull}
 use Rattle.lists.specs.Positions.{position}
-use Rattle.lists.specs.Swap.{swap_removed}
 use Rattle.table.specs.declared.table.Taken.{Taken}
 use Rattle.table.specs.Tables.{appended, replaced, taken}
 use Rattle.commands.specs.declared.command.Command.{Command}

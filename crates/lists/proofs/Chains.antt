@@ -1,9 +1,9 @@
 -- What a write leaves of the chains.
-use Rattle.std.proofs.Common.{◌≡◌, ℕ, suc, ◌<◌, ◌≤◌, sym, refl, ap, ◌∙◌, inl, inr, arith}
+use Rattle.std.proofs.Common.{◌≡◌, ℕ, suc, ◌<◌, ◌≤◌, sym, ap, ◌∙◌, inl, inr, arith}
 use Rattle.std.proofs.lemmas.Bool.{cases_eq, cases_lt}
 use Rattle.lists.specs.Latest.{latest}
 use Rattle.lists.specs.Chains.{Chains, Above, Put}
-use Rattle.lists.proofs.Latest.{latest_top, latest_under, latest_at, latest_none, latest_covers, latest_here, latest_range, latest_same, drop_other, drop_here}
+use Rattle.lists.proofs.Latest.{latest_top, latest_under, latest_at, latest_covers, latest_here, latest_range, latest_same, drop_other, drop_here}
 
 -- no place is in a chain
 pub emptied : (none buckets : ℕ) (h f x : ℕ → ℕ) → ((b : ℕ) → b < buckets → f b ≡ none) → Chains none buckets 0 h f x

@@ -2,7 +2,7 @@
 use Rattle.std.proofs.Common.{◌≡◌, ℕ, zero, suc, ◌<◌, ◌≤◌, cond, eqb, List, [], ◌∷◌, map, length, get_or, sym, refl, ap, ◌∙◌, subst, ⊎_elim, arith}
 use lib.ListN.{length-map}
 use Rattle.std.proofs.lemmas.Bool.{cases_lt}
-use Rattle.std.proofs.lemmas.List.{get_or_map, get_or_past}
+use Rattle.std.proofs.lemmas.List.{get_or-map, get_or_past}
 use Rattle.rows.specs.declared.cells.Cell.{Cell}
 use Rattle.rows.specs.declared.cells.RowHead.{RowHead}
 use Rattle.rows.specs.Rings.{none, nth, before, Ring, Apart}
@@ -15,7 +15,7 @@ part_same : {A : Type 0} (f : A → ℕ) (mem mem' : List A) (x : ℕ) → lengt
     → ((d : A) → get_or mem' x d ≡ get_or mem x d) → get_or (map f mem') x 0 ≡ get_or (map f mem) x 0
 part_same f [] mem' x same l was = absurd (omega arith)
 part_same f (m ∷ ms) mem' x same l was =
-    get_or_map f mem' x m 0 (omega arith) ∙ ap f (was m) ∙ sym (get_or_map f (m ∷ ms) x m 0 l)
+    get_or-map f mem' x m 0 (omega arith) ∙ ap f (was m) ∙ sym (get_or-map f (m ∷ ms) x m 0 l)
 
 module _ {K : Type 0} (mem mem' : List (Cell K)) (h : RowHead) (xs : List ℕ) (row : Row mem h xs)
     (same : length mem ≡ length mem')

@@ -1,7 +1,7 @@
 -- The list of a row is what its links give, and each cell's links are its neighbours in the list.
 use Rattle.std.proofs.Common.{◌≡◌, ℕ, zero, suc, ◌-◌, ◌<◌, ◌≤◌, List, [], ◌∷◌, length, get_or, sym, refl, ap, ◌∙◌, subst, arith}
 use Rattle.std.proofs.lemmas.Bool.{ne_eqb, cond-false}
-use Rattle.std.proofs.lemmas.List.{get_or_map}
+use Rattle.std.proofs.lemmas.List.{get_or-map}
 use Rattle.rows.specs.declared.cells.Cell.{Cell}
 use Rattle.rows.specs.declared.cells.RowHead.{RowHead}
 use Rattle.rows.specs.Rings.{none, nth, before, Gap, Holds}
@@ -65,11 +65,11 @@ module _ {K : Type 0} {mem : List (Cell K)} {h : RowHead} {xs : List ℕ} (row :
 
     pub at_prev : (d : Cell K) → (get_or mem x d).prev ≡ before xs i
     at_prev d =
-        sym (get_or_map (λ c. c.prev) mem x d 0 at_within) ∙ ap (λ y. get_or (prevs mem) y 0) (sym e) ∙ prev_is i li
+        sym (get_or-map (λ c. c.prev) mem x d 0 at_within) ∙ ap (λ y. get_or (prevs mem) y 0) (sym e) ∙ prev_is i li
 
     pub at_next : (d : Cell K) → (get_or mem x d).next ≡ nth xs (suc i)
     at_next d =
-        sym (get_or_map (λ c. c.next) mem x d 0 at_within) ∙ ap (λ y. get_or (nexts mem) y 0) (sym e) ∙ next_is i li
+        sym (get_or-map (λ c. c.next) mem x d 0 at_within) ∙ ap (λ y. get_or (nexts mem) y 0) (sym e) ∙ next_is i li
 
   pub held_within : {x : ℕ} → Holds x xs → x < length mem
   held_within held = at_within held.0 held.1 held.2

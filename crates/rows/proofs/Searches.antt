@@ -1,7 +1,7 @@
 -- A search along the links: what is found from a cell on is what is found in the whole row.
 use Rattle.std.proofs.Common.{◌≡◌, ℕ, suc, ◌-◌, ◌<◌, Bool, true, false, List, ◌∷◌, map, length, get_or, Some, None, Option, sym, ap, ◌∙◌, subst, arith}
 use Rattle.std.proofs.lemmas.Bool.{cond-true, cond-false}
-use Rattle.std.proofs.lemmas.List.{get_or_map}
+use Rattle.std.proofs.lemmas.List.{get_or-map}
 use Rattle.keys.specs.declared.kinds.Direction.{Direction}
 use Rattle.keys.specs.declared.kinds.Kind.{Kind}
 use Rattle.model.specs.Keys.{Keys}
@@ -15,7 +15,7 @@ use Rattle.rows.specs.HalfEdges.{side}
 -- a part of a cell that was read
 pub part_read : {A B : Type 0} (f : A → B) (mem : List A) (x : ℕ) (r : A) (e : B) → x < length mem → r ≡ get_or mem x r
     → get_or (map f mem) x e ≡ f r
-part_read f mem x r e l is = get_or_map f mem x r e l ∙ ap f (sym is)
+part_read f mem x r e l is = get_or-map f mem x r e l ∙ ap f (sym is)
 
 -- whether the cell x names a node of the value m
 abbrev pub naming : {N V : Type 0} → Keys N V → Kind → V → Direction → List (Cell N) → N → ℕ → Bool

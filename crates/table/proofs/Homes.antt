@@ -1,7 +1,7 @@
 -- The bucket and the mark of a place follow from its key.
-use Rattle.std.proofs.Common.{◌≡◌, ℕ, ◌*◌, ◌/◌, ◌%◌, ◌^◌, ◌<◌, List, [], ◌∷◌, map, length, get_or, sym, refl, ap, ◌∙◌, mul_comm, mul-lt-mul_of_pos_right, arith}
+use Rattle.std.proofs.Common.{◌≡◌, ℕ, ◌*◌, ◌/◌, ◌%◌, ◌^◌, ◌<◌, List, [], ◌∷◌, map, length, get_or, sym, ap, ◌∙◌, mul_comm, mul-lt-mul_of_pos_right, arith}
 use Rattle.std.proofs.lemmas.Nat.{div_below, mod_below}
-use Rattle.std.proofs.lemmas.List.{get_or_map}
+use Rattle.std.proofs.lemmas.List.{get_or-map}
 use Rattle.table.specs.Slots.{at}
 use Rattle.table.specs.Index.{home, mark, homes, tags}
 
@@ -9,7 +9,7 @@ use Rattle.table.specs.Index.{home, mark, homes, tags}
 key_part : {K V : Type 0} (part : K → ℕ) (es : List (K × V)) (i : ℕ) (k : K) → i < length es
     → ((d : K × V) → k ≡ (get_or es i d).0) → at (map (λ e. part e.0) es) i ≡ part k
 key_part part [] i k lt is = omega arith
-key_part {K} {V} part (e ∷ es) i k lt is = get_or_map (λ (z : K × V). part z.0) (e ∷ es) i e 0 lt ∙ ap part (sym (is e))
+key_part {K} {V} part (e ∷ es) i k lt is = get_or-map (λ (z : K × V). part z.0) (e ∷ es) i e 0 lt ∙ ap part (sym (is e))
 
 pub home_at : {K V : Type 0} (hashed : K → ℕ) (cap : ℕ) (es : List (K × V)) (i : ℕ) (k : K) → i < length es
     → ((d : K × V) → k ≡ (get_or es i d).0) → at (homes hashed cap es) i ≡ home cap (hashed k)

@@ -1,5 +1,5 @@
 -- The marks of buckets, over plain functions: m b has the marks of bucket b, h i and t i the bucket and the mark of place i.
-use Rattle.std.proofs.Common.{◌≡◌, ℕ, suc, ◌+◌, ◌*◌, ◌/◌, ◌%◌, ◌^◌, ◌<◌, ◌≤◌, max, sym, refl, ap, ◌∙◌, inl, inr, one-mul, arith}
+use Rattle.std.proofs.Common.{◌≡◌, ℕ, ◌+◌, ◌/◌, ◌%◌, ◌^◌, ◌<◌, sym, ap, ◌∙◌, inl, inr, one-mul, arith}
 use native.Mathlib.Nat.{le-max_left, le-max_right, max-le}
 use lib.Bits.{bit_or, or_step}
 use Rattle.std.proofs.lemmas.Nat.{or_shr, shl-shr}

@@ -1,6 +1,6 @@
 -- An entry that is written at a place, and the buckets then.
 use Rattle.std.proofs.Common.{◌≡◌, ℕ, ◌+◌, ◌*◌, ◌<◌, ◌≤◌, List, [], ◌∷◌, map, length, get_or, set, sym, refl, ap, ◌∙◌, inl, inr, arith}
-use Rattle.std.proofs.lemmas.List.{map-set, length-map, get_or_map, get_or-set_same, get_or-set_other}
+use Rattle.std.proofs.lemmas.List.{map-set, length-map, get_or-map, get_or-set_same, get_or-set_other}
 use Rattle.std.proofs.lemmas.Bool.{cases_eq}
 use Rattle.lists.specs.Chains.{Chains}
 use Rattle.lists.proofs.Chains.{agreeing}
@@ -68,7 +68,7 @@ copied_part : {K V : Type 0} (part : K → ℕ) (es es' : List (K × V)) (g l : 
     → ((d : K × V) → es' ≡ set es g (get_or es l d)) → at (map (λ z. part z.0) es') g ≡ at (map (λ z. part z.0) es) l
 copied_part part [] es' g l gl ll is = omega arith
 copied_part {K} {V} part (e ∷ es) es' g l gl ll is =
-    written_part g (e ∷ es) es' (get_or (e ∷ es) l e) (is e) part gl ∙ sym (get_or_map (λ (z : K × V). part z.0) (e ∷ es) l e 0 ll)
+    written_part g (e ∷ es) es' (get_or (e ∷ es) l e) (is e) part gl ∙ sym (get_or-map (λ (z : K × V). part z.0) (e ∷ es) l e 0 ll)
 
 kept_part : {K V : Type 0} (part : K → ℕ) (es es' : List (K × V)) (g l : ℕ)
     → ((d : K × V) → es' ≡ set es g (get_or es l d)) → g < length es → (i : ℕ) → (i ≡ g → ⊥)

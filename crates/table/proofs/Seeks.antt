@@ -1,6 +1,6 @@
 -- A search for a key down the chain of its bucket.
 use Rattle.std.proofs.Common.{◌≡◌, ℕ, ◌<◌, ◌≤◌, true, false, List, [], ◌∷◌, map, length, get_or, take, Some, None, Ok, Err, Option, Ordering, Less, Equal, Greater, sym, refl, ap, ◌∙◌, inl, inr, arith}
-use Rattle.std.proofs.lemmas.List.{length-take-le, length-map, get_or-take, get_or_map}
+use Rattle.std.proofs.lemmas.List.{length-take-le, length-map, get_or-take, get_or-map}
 use Rattle.std.proofs.lemmas.Bool.{cases_lt, cases_Bool, both_ways, false≢true}
 use Rattle.keys.specs.Order.{Laws, is_equal, alike}
 use Rattle.lists.specs.Latest.{latest}
@@ -27,7 +27,7 @@ part_of_same : {K V W : Type 0} (value : K → W) (part : K → ℕ) (xs : List 
     → ((j : K) → value j ≡ value k → part j ≡ p) → (i : ℕ) (d : K × V) → i < len
     → value (get_or (take len (pairs xs)) i d).0 ≡ value k → at (map (λ e. part e.0) (pairs xs)) i ≡ p
 part_of_same {K} {V} value part xs len p fits k by_value i d lt e =
-    get_or_map (λ (z : K × V). part z.0) (pairs xs) i d 0 (simp length-map (omega arith))
+    get_or-map (λ (z : K × V). part z.0) (pairs xs) i d 0 (simp length-map (omega arith))
     ∙ by_value _ (sym (ap (λ (z : K × V). value z.0) (entry_at xs len fits i d lt)) ∙ e)
 
 pub tag_of_same : {K V W : Type 0} (value : K → W) (hashed : K → ℕ) (xs : List (Slot K V)) (len m : ℕ) → len ≤ length xs → (k : K)
@@ -59,7 +59,7 @@ module _ {K V W : Type 0} (value : K → W) (hashed : K → ℕ) (xs : List (Slo
 pub key_of_slot : {K V : Type 0} (xs : List (Slot K V)) (len : ℕ) → len ≤ length xs → (i : ℕ) (s : Slot K V) (d : K × V) → i < len
     → (get_or (take len (pairs xs)) i d).0 ≡ (get_or xs i s).key
 key_of_slot {K} {V} xs len fits i s d lt =
-    ap (λ (z : K × V). z.0) (entry_at xs len fits i d lt ∙ get_or_map (λ (z : Slot K V). (z.key, z.value)) xs i s d (omega arith))
+    ap (λ (z : K × V). z.0) (entry_at xs len fits i d lt ∙ get_or-map (λ (z : Slot K V). (z.key, z.value)) xs i s d (omega arith))
 
 equal_from : (o : Ordering) → is_equal o ≡ true → o ≡ Equal
 equal_from Less e = absurd (false≢true e)

@@ -1,5 +1,5 @@
 -- A walk down a chain.
-use Rattle.std.proofs.Common.{◌≡◌, ℕ, ◌+◌, ◌%◌, ◌<◌, ◌≤◌, ◌⊎◌, sym, refl, ap, ◌∙◌, inl, inr, arith}
+use Rattle.std.proofs.Common.{◌≡◌, ℕ, ◌+◌, ◌%◌, ◌<◌, ◌≤◌, ◌⊎◌, ap, ◌∙◌, inl, inr, arith}
 use Rattle.lists.specs.Latest.{latest}
 use Rattle.lists.specs.Chains.{Chains, ChainsBut, Above}
 use Rattle.lists.proofs.Latest.{latest_range, latest_here, latest_covers}

@@ -1,5 +1,5 @@
 -- A write to a holder, and what it leaves of the chains.
-use Rattle.std.proofs.Common.{◌≡◌, ℕ, ◌*◌, ◌<◌, ◌≤◌, min, cond, eqb, List, length, set, sym, refl, ap, ◌∙◌, inl, inr, arith}
+use Rattle.std.proofs.Common.{◌≡◌, ℕ, ◌*◌, ◌<◌, ◌≤◌, min, eqb, List, length, set, sym, refl, ap, ◌∙◌, inl, inr, arith}
 use Rattle.lists.specs.Chains.{Above, Put, Chains}
 use Rattle.table.specs.declared.slot.Twin.{Twin}
 use Rattle.table.specs.declared.slot.Slot.{Slot}

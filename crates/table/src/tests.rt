@@ -1,6 +1,6 @@
 ghost use Rattle.std.specs.Prelude.{◌≡◌, ℕ, ◌/◌};
 ghost use Rattle.keys.specs.Nodes.{by_number};
-ghost use Rattle.std.proofs.Common.{rules};
+ghost use Rattle.keys.specs.Laws.{number_laws};
 
 use crate::reads::*;
 use crate::slot::*;
@@ -22,7 +22,7 @@ impl Compare for Half {
 
     ghost order = { by_number };
 
-    ghost ordered = { Prim.search rules };
+    ghost ordered = { number_laws };
 
     fn compare(&self, other: &Half) -> Ordering {
         (self.0 / 2).cmp(&(other.0 / 2))

@@ -1,5 +1,7 @@
 // Times the table by the clock: nanoseconds for each operation. `tablebench run` takes the times; without a word it
 // says how it is used.
+#![tactic(auto)]
+
 ghost use Rattle.std.specs.Prelude.{◌<◌};
 ghost use Rattle.table.specs.Tables.{Sound};
 ghost use Rattle.linktable.specs.Links.{key_value, key_hash};

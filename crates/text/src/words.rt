@@ -62,8 +62,8 @@ mod tests {
     #[test]
     fn first_word(rt: HostRuntime) -> Result<(), Fail> {
         let (word, rest) = split_word(b"\t add 7\r").ok_or("no word")?;
-        assert!(rt; word == b"add");
-        assert!(rt; rest == b" 7\r");
+        assert!(rt; word == b"add".as_slice());
+        assert!(rt; rest == b" 7\r".as_slice());
         assert!(rt; split_word(b" \t\r").is_none());
         Ok(())
     }

@@ -25,8 +25,8 @@ returns-then-p-min g c =
     let full = le-leb (min (capacity c.args.links.now) (length mem / 2)) (length ls) (omega (arith, c.len-p.ensures, c.capacity.ensures, c.room.ensures)) in
     record { sound = c.requires.sound; done = sym (cond-true _ _ _ full) }
 
-pub overflow-sub-capacity : goal.overflow-sub-capacity
-overflow-sub-capacity g c =
+pub overflow_sub-capacity : goal.overflow_sub-capacity
+overflow_sub-capacity g c =
     let f = entries_fit _ _ c.args.nodes.now c.requires.sound.stage.nodes in
     omega (arith, c.len.ensures, c.capacity-2.ensures)
 
@@ -74,7 +74,7 @@ append-requires g c =
     let links = c.args.links.now in
     record {
       sound = c.requires.sound.table;
-      absent = ap (Rattle.table.specs.Tables.sought (Rattle.keys.specs.Nodes.by_both K.order K.order) (Rattle.model.proofs.Ends.values K) (λ (q : g.row.N.Denot × g.row.N.Denot). Rattle.keys.specs.Hashes.pair-hash (g.N.NodeTrait.hashed q.0) (g.N.NodeTrait.hashed q.1)) (capacity links) (entries links)) c.edge-key.ensures ∙ c.requires.absent;
+      absent = ap (Rattle.table.specs.Tables.sought (Rattle.keys.specs.Nodes.by_both K.order K.order) (Rattle.model.proofs.Ends.values K) (λ (q : g.row.N.Denot × g.row.N.Denot). Rattle.keys.specs.Hashes.pair_hash (g.N.NodeTrait.hashed q.0) (g.N.NodeTrait.hashed q.1)) (capacity links) (entries links)) c.edge_key.ensures ∙ c.requires.absent;
     }
 
 pub returns : goal.returns
@@ -104,7 +104,7 @@ returns g c =
     let m = rowed_length mem es in
     let has = le-ltb (capacity nodes) (length (noded ks (rowed mem es)) + wanted K a b (noded ks (rowed mem es))) (omega (arith, c.len.ensures, c.capacity-2.ensures)) in
     let done = t.done ∙ cond-true _ _ _ (lt-ltb (length ls) (capacity links) (omega arith)) in
-    let added : entries c.append.new.self ≡ ls ++ (edge_key K k a b, w) ∷ [] = ap (λ z. z.1) done ∙ ap (λ q. ls ++ (q, w) ∷ []) c.edge-key.ensures in
+    let added : entries c.append.new.self ≡ ls ++ (edge_key K k a b, w) ∷ [] = ap (λ z. z.1) done ∙ ap (λ q. ls ++ (q, w) ∷ []) c.edge_key.ensures in
     let len = ap length added ∙ length_push ls (edge_key K k a b, w) in
     let ek : cell_keys mem' ≡ wrote ks (length ls) a b = j.keys ∙ ap (λ z. wrote ks z a b) p in
     let same : length mem' ≡ length mem = sym (length-map mem' (λ y. y.key)) ∙ ap length ek ∙ length_wrote a ks (length ls) a b ∙ length-map mem (λ y. y.key) in

@@ -15,15 +15,15 @@ use Rattle.adjacency.proofs.Frames.{fresh_count, off_row, off_more, edited_rings
 use Rattle.adjacency.proofs.Puts.{fewer_alone, fewer_owned, fewer_first}
 use Rattle.adjacency.proofs.edits.behead.Goals as goal
 
-pub pop-first-first-requires : goal.pop-first-first-requires
-pop-first-first-requires g c =
+pub pop_first-first-requires : goal.pop_first-first-requires
+pop_first-first-requires g c =
     let mem = c.args.cells.now in
     let es = entries c.args.nodes.now in
     let i = c.args.i in
     let p = c.requires in
     let s = p.stage in
     let e = some_of es i p.place in
-    let r = c.value-at-row.ensures e in
+    let r = c.value_at-row.ensures e in
     let q = row_read mem es i e p.place in
     record {
       small = s.small;
@@ -39,20 +39,20 @@ pub returns : goal.returns
 returns g c =
     let K = keys g.N.Compare.value g.N.Compare.order in
     let mem = c.args.cells.now in
-    let mem' = c.pop-first-first.new.cells in
+    let mem' = c.pop_first-first.new.cells in
     let es = entries c.args.nodes.now in
     let i = c.args.i in
-    let h = c.value-at-row.result in
-    let h' = c.pop-first-first.new.row in
+    let h = c.value_at-row.result in
+    let h' = c.pop_first-first.new.row in
     let p = c.requires in
     let s = p.stage in
-    let a = c.pop-first-first.ensures in
+    let a = c.pop_first-first.ensures in
     let same : length mem ≡ length mem' = omega arith in
     let e = some_of es i p.place in
-    let put = value_put es _ i h' _ c.set-value.ensures.done p.place in
-    let x = c.pop-first-first.result in
-    let off = off_row mem es s.alone i p.place h c.value-at-row.ensures in
-    let es' = entries c.set-value.new.self in
+    let put = value_put es _ i h' _ c.set_value.ensures.done p.place in
+    let x = c.pop_first-first.result in
+    let off = off_row mem es s.alone i p.place h c.value_at-row.ensures in
+    let es' = entries c.set_value.new.self in
     let rowed-put : (d : g.row.N.Denot) → rowed mem' es' ≡ put_row (rowed mem es) i d (listed mem' h') = λ d.
     let f : g.row.N.Denot × RowHead = (d, bare) in
     ap (rowed mem') (put f)
@@ -63,16 +63,16 @@ returns g c =
     let rows : (d : g.row.N.Denot) → rowed mem' es' ≡ put_row (rowed mem es) i d (row_at (rowed mem' es') i d) = λ d. rowed-put d ∙ ap (put_row (rowed mem es) i d) (sym (read d)) in
     let first : (d : g.row.N.Denot) → row_at (rowed mem es) i d ≡ x ∷ row_at (rowed mem' es') i d = λ d.
     let f : g.row.N.Denot × RowHead = (d, bare) in
-    ap (λ v. v.1) (row_read mem es i f p.place) ∙ sym (ap (listed mem) (c.value-at-row.ensures f)) ∙ a.rest ∙ ap (λ ys. x ∷ ys) (sym (read d)) in
+    ap (λ v. v.1) (row_read mem es i f p.place) ∙ sym (ap (listed mem) (c.value_at-row.ensures f)) ∙ a.rest ∙ ap (λ ys. x ∷ ys) (sym (read d)) in
     record {
       stage = record {
-        nodes = c.set-value.ensures.sound;
+        nodes = c.set_value.ensures.sound;
         small = omega (arith, s.small);
         rings = subst (Rings mem') (sym (put e)) (edited_rings mem mem' es i (get_or es i e).0 h' (listed mem h) s.small same s.rings p.place a.kept a.linked off);
         alone = fewer_alone mem es _ i e.0 _ p.place (fewer_first _ _ x (first e.0)) (rows e.0) s.alone;
         owned = λ d. fewer_owned mem es _ i d _ p.place (fewer_first _ _ x (first d)) (rows d) K _ _ a.kept.keys (s.owned d);
       };
-      room = c.set-value.ensures.room;
+      room = c.set_value.ensures.room;
       keys = a.kept.keys;
       first = first;
       rows = rows;

@@ -14,15 +14,15 @@ use Rattle.adjacency.proofs.Frames.{fresh_count, off_row, off_more, edited_rings
 use Rattle.adjacency.proofs.Puts.{fewer_alone, fewer_owned, fewer_swap_removed}
 use Rattle.adjacency.proofs.edits.leave.Goals as goal
 
-pub swap-remove-requires : goal.swap-remove-requires
-swap-remove-requires g c =
+pub swap_remove-requires : goal.swap_remove-requires
+swap_remove-requires g c =
     let mem = c.args.cells.now in
     let es = entries c.args.nodes.now in
     let i = c.args.i in
     let p = c.requires in
     let s = p.stage in
     let e = some_of es i p.place in
-    let r = c.value-at-row.ensures e in
+    let r = c.value_at-row.ensures e in
     let q = row_read mem es i e p.place in
     record {
       small = s.small;
@@ -34,23 +34,23 @@ pub returns : goal.returns
 returns g c =
     let K = keys g.N.Compare.value g.N.Compare.order in
     let mem = c.args.cells.now in
-    let mem' = c.swap-remove.new.cells in
+    let mem' = c.swap_remove.new.cells in
     let es = entries c.args.nodes.now in
     let i = c.args.i in
-    let h = c.value-at-row.result in
-    let h' = c.swap-remove.new.row in
+    let h = c.value_at-row.result in
+    let h' = c.swap_remove.new.row in
     let p = c.requires in
     let s = p.stage in
-    let a = c.swap-remove.ensures in
+    let a = c.swap_remove.ensures in
     let same : length mem ≡ length mem' = omega arith in
     let e = some_of es i p.place in
-    let put = value_put es _ i h' _ c.set-value.ensures.done p.place in
+    let put = value_put es _ i h' _ c.set_value.ensures.done p.place in
     let x = c.args.c in
-    let off = off_row mem es s.alone i p.place h c.value-at-row.ensures in
-    let rows : (d : g.row.N.Denot) (k : ℕ) → k < length (row_at (rowed mem es) i d) → nth (row_at (rowed mem es) i d) k ≡ x → rowed mem' (entries c.set-value.new.self) ≡ put_row (rowed mem es) i d (swap_removed (row_at (rowed mem es) i d) k) = λ d k lk at.
+    let off = off_row mem es s.alone i p.place h c.value_at-row.ensures in
+    let rows : (d : g.row.N.Denot) (k : ℕ) → k < length (row_at (rowed mem es) i d) → nth (row_at (rowed mem es) i d) k ≡ x → rowed mem' (entries c.set_value.new.self) ≡ put_row (rowed mem es) i d (swap_removed (row_at (rowed mem es) i d) k) = λ d k lk at.
     let f : g.row.N.Denot × RowHead = (d, bare) in
     let q = row_read mem es i f p.place in
-    let r = c.value-at-row.ensures f in
+    let r = c.value_at-row.ensures f in
     let n = ap (λ v. length v.1) q in
     let u = ap (λ v. v.len) r in
     ap (rowed mem') (put f)
@@ -60,7 +60,7 @@ returns g c =
     let held : (d : g.row.N.Denot) → Holds x (row_at (rowed mem es) i d) = λ d. count_holds x (row_at (rowed mem es) i d) (p.held d) in
     record {
       stage = record {
-        nodes = c.set-value.ensures.sound;
+        nodes = c.set_value.ensures.sound;
         small = omega (arith, s.small);
         rings = subst (Rings mem') (sym (put e)) (edited_rings mem mem' es i (get_or es i e).0 h' (listed mem h) s.small same s.rings p.place a.kept a.linked off);
         alone =
@@ -70,7 +70,7 @@ returns g c =
             let o = held d in
             fewer_owned mem es _ i d _ p.place (fewer_swap_removed _ o.0 x o.1 o.2) (rows d o.0 o.1 o.2) K _ _ a.kept.keys (s.owned d);
       };
-      room = c.set-value.ensures.room;
+      room = c.set_value.ensures.room;
       keys = a.kept.keys;
       rows = rows;
     }

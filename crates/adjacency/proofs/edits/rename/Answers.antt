@@ -22,7 +22,7 @@ replace-requires g c =
     let p = c.requires in
     let s = p.stage in
     let e = some_of es i p.place in
-    let r = c.value-at-row.ensures e in
+    let r = c.value_at-row.ensures e in
     let q = row_read mem es i e p.place in
     record {
       small = s.small;
@@ -39,21 +39,21 @@ returns g c =
     let mem' = c.replace.new.cells in
     let es = entries c.args.nodes.now in
     let i = c.args.i in
-    let h = c.value-at-row.result in
+    let h = c.value_at-row.result in
     let h' = c.replace.new.row in
     let p = c.requires in
     let s = p.stage in
     let a = c.replace.ensures in
     let same : length mem ≡ length mem' = omega arith in
     let e = some_of es i p.place in
-    let put = value_put es _ i h' _ c.set-value.ensures.done p.place in
+    let put = value_put es _ i h' _ c.set_value.ensures.done p.place in
     let x = c.args.old in
     let y = c.args.new in
-    let off = off_more mem es s.alone i p.place h c.value-at-row.ensures y p.fresh in
-    let rows : (d : g.row.N.Denot) (k : ℕ) → k < length (row_at (rowed mem es) i d) → nth (row_at (rowed mem es) i d) k ≡ x → rowed mem' (entries c.set-value.new.self) ≡ put_row (rowed mem es) i d (set (row_at (rowed mem es) i d) k y) = λ d k lk at.
+    let off = off_more mem es s.alone i p.place h c.value_at-row.ensures y p.fresh in
+    let rows : (d : g.row.N.Denot) (k : ℕ) → k < length (row_at (rowed mem es) i d) → nth (row_at (rowed mem es) i d) k ≡ x → rowed mem' (entries c.set_value.new.self) ≡ put_row (rowed mem es) i d (set (row_at (rowed mem es) i d) k y) = λ d k lk at.
     let f : g.row.N.Denot × RowHead = (d, bare) in
     let q = row_read mem es i f p.place in
-    let r = c.value-at-row.ensures f in
+    let r = c.value_at-row.ensures f in
     let n = ap (λ v. length v.1) q in
     let u = ap (λ v. v.len) r in
     ap (rowed mem') (put f)
@@ -63,7 +63,7 @@ returns g c =
     let held : (d : g.row.N.Denot) → Holds x (row_at (rowed mem es) i d) = λ d. count_holds x (row_at (rowed mem es) i d) (p.held d) in
     record {
       stage = record {
-        nodes = c.set-value.ensures.sound;
+        nodes = c.set_value.ensures.sound;
         small = omega (arith, s.small);
         rings = subst (Rings mem') (sym (put e)) (edited_rings mem mem' es i (get_or es i e).0 h' (y ∷ listed mem h) s.small same s.rings p.place a.kept a.linked off);
         alone =
@@ -73,7 +73,7 @@ returns g c =
             let o = held d in
             renamed_owned mem es _ i x y o.0 d p.place o.1 o.2 (rows d o.0 o.1 o.2) K _ _ a.kept.keys (s.owned d) (p.own d);
       };
-      room = c.set-value.ensures.room;
+      room = c.set_value.ensures.room;
       keys = a.kept.keys;
       rows = rows;
     }

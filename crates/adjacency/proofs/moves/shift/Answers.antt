@@ -21,15 +21,15 @@ use Rattle.adjacency.proofs.Seating.{found_vacant, found_ok}
 use Rattle.adjacency.proofs.Owners.{never_absent, in_its_row}
 use Rattle.adjacency.proofs.moves.shift.Goals as goal
 
-pub returns-in-default : goal.returns-in-default
-returns-in-default g c =
+pub returns-in_default : goal.returns-in_default
+returns-in_default g c =
     let K = keys g.N.Compare.value g.N.Compare.order in
     let laws = g.met.N.Compare.ordered in
     let mem = c.args.cells.now in
     let es = entries c.args.nodes.now in
     let n = c.args.n in
     let s = c.requires.stage in
-    absurd (Rattle.adjacency.proofs.Sought.err-case _ c.in-default.not-Ok (λ w e.
+    absurd (Rattle.adjacency.proofs.Sought.err-case _ c.in_default.not-Ok (λ w e.
     never_absent K laws n (cell_keys mem) mem es (K.value n) c.args.old s.nodes.apart (s.owned n) (omega (arith, c.requires.held)) (c.requires.own n) (found_vacant _ _ w (sym c.find.ensures ∙ e))))
 
 pub rename-requires : goal.rename-requires
@@ -73,7 +73,7 @@ returns g c =
     let li : i < length ns = omega (arith, rowed_length mem es) in
     let h : Holds old (row_at ns i n) = count_holds old (row_at ns i n) (in_its_row K laws n ks mem es (K.value n) old s.nodes.apart (s.owned n) (omega (arith, c.requires.held)) (c.requires.own n) i at) in
     let rows = r.rows n h.0 h.1 h.2 in
-    let lo : old < length ks = let l = c.requires.old-within old (omega (arith, c.requires.held)) in omega (arith, length-map mem (λ y. y.key)) in
+    let lo : old < length ks = let l = c.requires.old_within old (omega (arith, c.requires.held)) in omega (arith, length-map mem (λ y. y.key)) in
     let ln : new < length ks = omega (arith, length-map mem (λ y. y.key), c.requires.within) in
     record {
       stage = r.stage;

@@ -21,7 +21,7 @@ search-requires g c =
     let e = some_of es c.args.i c.requires.from in
     record {
       small = c.requires.stage.small;
-      linked = subst (Linked mem) (sym (c.value-at-from.ensures e)) (c.requires.stage.rings c.args.i e c.requires.from);
+      linked = subst (Linked mem) (sym (c.value_at-from.ensures e)) (c.requires.stage.rings c.args.i e c.requires.from);
     }
 
 pub returns-then-i-j : goal.returns-then-i-j
@@ -29,7 +29,7 @@ returns-then-i-j g c = λ d.
     let mem = c.args.rows.now.cells.now in
     let es = entries c.args.nodes.now in
     let e : g.row.N.Denot × RowHead = (d, bare) in
-    inl (c.search.ensures d ∙ ap (found _) (ap (listed mem) (c.value-at-from.ensures e) ∙ sym (ap (λ n. n.1) (row_read mem es c.args.i e c.requires.from))))
+    inl (c.search.ensures d ∙ ap (found _) (ap (listed mem) (c.value_at-from.ensures e) ∙ sym (ap (λ n. n.1) (row_read mem es c.args.i e c.requires.from))))
 
 pub search-requires-2 : goal.search-requires-2
 search-requires-2 g c =
@@ -38,18 +38,18 @@ search-requires-2 g c =
     let e = some_of es c.args.j c.requires.to in
     record {
       small = c.requires.stage.small;
-      linked = subst (Linked mem) (sym (c.value-at-to.ensures e)) (c.requires.stage.rings c.args.j e c.requires.to);
+      linked = subst (Linked mem) (sym (c.value_at-to.ensures e)) (c.requires.stage.rings c.args.j e c.requires.to);
     }
 
-pub twin-of-requires : goal.twin-of-requires
-twin-of-requires g c =
+pub twin_of-requires : goal.twin_of-requires
+twin_of-requires g c =
     let mem = c.args.rows.now.cells.now in
     let es = entries c.args.nodes.now in
     let j = c.args.j in
     let e = some_of es j c.requires.to in
     let h = found_in _ _ c.in-Some.c (sym (c.in-Some.ensures e.0)) in
     cell_within mem es j c.in-Some.c e c.requires.stage.rings c.requires.stage.small c.requires.to
-    (subst (λ z. 1 ≤ count c.in-Some.c z) (ap (listed mem) (c.value-at-to.ensures e) ∙ sym (ap (λ n. n.1) (row_read mem es j e c.requires.to))) h.0)
+    (subst (λ z. 1 ≤ count c.in-Some.c z) (ap (listed mem) (c.value_at-to.ensures e) ∙ sym (ap (λ n. n.1) (row_read mem es j e c.requires.to))) h.0)
 
 pub returns-in-Some : goal.returns-in-Some
 returns-in-Some g c = λ d.
@@ -58,8 +58,8 @@ returns-in-Some g c = λ d.
     let e : g.row.N.Denot × RowHead = (d, bare) in
     inr (
       c.if-i-j.false,
-      ap Some c.twin-of.ensures
-          ∙ ap twinned (c.in-Some.ensures d ∙ ap (found _) (ap (listed mem) (c.value-at-to.ensures e) ∙ sym (ap (λ n. n.1) (row_read mem es c.args.j e c.requires.to)))),
+      ap Some c.twin_of.ensures
+          ∙ ap twinned (c.in-Some.ensures d ∙ ap (found _) (ap (listed mem) (c.value_at-to.ensures e) ∙ sym (ap (λ n. n.1) (row_read mem es c.args.j e c.requires.to)))),
     )
 
 pub returns-in-None : goal.returns-in-None
@@ -69,5 +69,5 @@ returns-in-None g c = λ d.
     let e : g.row.N.Denot × RowHead = (d, bare) in
     inr (
       c.if-i-j.false,
-      ap twinned (c.in-None.ensures d ∙ ap (found _) (ap (listed mem) (c.value-at-to.ensures e) ∙ sym (ap (λ n. n.1) (row_read mem es c.args.j e c.requires.to)))),
+      ap twinned (c.in-None.ensures d ∙ ap (found _) (ap (listed mem) (c.value_at-to.ensures e) ∙ sym (ap (λ n. n.1) (row_read mem es c.args.j e c.requires.to)))),
     )

@@ -27,8 +27,8 @@ returns-then-i-j g c =
       two = λ ne. absurd (ne c.if-i-j.true);
     }
 
-pub twin-of-requires : goal.twin-of-requires
-twin-of-requires g c =
+pub twin_of-requires : goal.twin_of-requires
+twin_of-requires g c =
     let es = entries c.args.nodes.now in
     let e = some_of es c.args.i c.requires.from in
     cell_within c.args.cells.now es c.args.i c.args.c e c.requires.stage.rings c.requires.stage.small c.requires.from (c.requires.held e.0)
@@ -53,7 +53,7 @@ leave-requires-2 g c =
           let h = count_holds c.args.c (row_at ns i d) (c.requires.held d) in
           let still : row_at (rowed c.leave.new.cells (entries c.leave.new.nodes)) j d ≡ row_at ns j d =
           ap (λ z. row_at z j d) (l.rows d h.0 h.1 h.2) ∙ ap (λ n. n.1) (read_other d ns i li (swap_removed (row_at ns i d) h.0) j (λ e. c.if-i-j.false (sym e))) in
-          subst (λ z. 1 ≤ count z (row_at (rowed c.leave.new.cells (entries c.leave.new.nodes)) j d)) (sym c.twin-of.ensures) (subst (λ z. 1 ≤ count (twin c.args.c) z) (sym still) (c.requires.other c.if-i-j.false d));
+          subst (λ z. 1 ≤ count z (row_at (rowed c.leave.new.cells (entries c.leave.new.nodes)) j d)) (sym c.twin_of.ensures) (subst (λ z. 1 ≤ count (twin c.args.c) z) (sym still) (c.requires.other c.if-i-j.false d));
     }
 
 pub returns : goal.returns
@@ -72,6 +72,6 @@ returns g c =
       two = λ ne d k lk at q lq atq.
           let first = l.rows d k lk at in
           let same = ap (λ z. row_at z j d) first in
-          m.rows d q (subst (λ z. q < length z) (sym same) lq) (ap (λ z. nth z q) same ∙ atq ∙ sym c.twin-of.ensures)
+          m.rows d q (subst (λ z. q < length z) (sym same) lq) (ap (λ z. nth z q) same ∙ atq ∙ sym c.twin_of.ensures)
           ∙ (λ t. put_row (first t) j d (swap_removed (same t) q));
     }

@@ -15,12 +15,12 @@ use Rattle.adjacency.proofs.Entries.{some_of}
 use Rattle.adjacency.proofs.Keying.{keyed_as}
 use Rattle.adjacency.proofs.removing.unhook.Goals as goal
 
-pub returns-in-default : goal.returns-in-default
-returns-in-default g c =
+pub returns-in_default : goal.returns-in_default
+returns-in_default g c =
     let ls = entries c.args.links.now in
     let p = c.args.p in
     let d₀ = some_of ls p c.requires.place in
-    absurd (c.in-default.not-Some _ (ap (λ z. z.0) (c.swap-remove.ensures.done ∙ ap (taken_at ls p) (slice_get-get_or ls p d₀ c.requires.place))))
+    absurd (c.in_default.not-Some _ (ap (λ z. z.0) (c.swap_remove.ensures.done ∙ ap (taken_at ls p) (slice_get-get_or ls p d₀ c.requires.place))))
 
 pub settle-requires : goal.settle-requires
 settle-requires g c =
@@ -31,7 +31,7 @@ settle-requires g c =
     let d₀ = some_of ls p c.requires.place in
     let t = c.in-Some.taken in
     let is : Some t ≡ Some (record { entry = get_or ls p d₀; last = length ls - 1; gap = p }) =
-    sym c.in-Some.is ∙ ap (λ z. z.0) (c.swap-remove.ensures.done ∙ ap (taken_at ls p) (slice_get-get_or ls p d₀ c.requires.place)) in
+    sym c.in-Some.is ∙ ap (λ z. z.0) (c.swap_remove.ensures.done ∙ ap (taken_at ls p) (slice_get-get_or ls p d₀ c.requires.place)) in
     let last : t.last ≡ length ls - 1 = cc in
     let gap : t.gap ≡ p = cc in
     record {
@@ -52,12 +52,12 @@ returns g c =
     let mem' = c.settle.new.cells in
     let d₀ = some_of ls p c.requires.place in
     let t = c.in-Some.taken in
-    let done = c.swap-remove.ensures.done ∙ ap (taken_at ls p) (slice_get-get_or ls p d₀ c.requires.place) in
+    let done = c.swap_remove.ensures.done ∙ ap (taken_at ls p) (slice_get-get_or ls p d₀ c.requires.place) in
     let is : Some t ≡ Some (record { entry = get_or ls p d₀; last = length ls - 1; gap = p }) = sym c.in-Some.is ∙ ap (λ z. z.0) done in
     let last : t.last ≡ length ls - 1 = cc in
     let gap : t.gap ≡ p = cc in
     let entry : t.entry ≡ get_or ls p d₀ = cc in
-    let gone : entries c.swap-remove.new.self ≡ swap_removed ls p = ap (λ z. z.1) done in
+    let gone : entries c.swap_remove.new.self ≡ swap_removed ls p = ap (λ z. z.1) done in
     let len = ap length gone ∙ length_swap_removed ls p in
     let s = c.settle.ensures in
     let more : t.last + 1 ≡ length ls = omega (arith, c.requires.place) in
@@ -67,9 +67,9 @@ returns g c =
     record {
       sound = record {
         stage = s.stage;
-        table = c.swap-remove.ensures.sound;
+        table = c.swap_remove.ensures.sound;
         fits = omega (arith, c.requires.fits);
-        whole = λ d x. s.whole d x ∙ ap (λ z. stands K d (cell_keys mem') z x) (let e : t.last ≡ length (entries c.swap-remove.new.self) = omega arith in e);
+        whole = λ d x. s.whole d x ∙ ap (λ z. stands K d (cell_keys mem') z x) (let e : t.last ≡ length (entries c.swap_remove.new.self) = omega arith in e);
         keyed = λ d.
             keyed_as K d c.args.kind _ _ _ _ (s.keys d ∙ ap (λ z. moved ks d z t.last) gap) gone
             (keyed_moved K d c.args.kind ks p t.last ls more (omega (arith, c.requires.place)) (omega (arith, c.requires.fits)) (c.requires.keyed d));
@@ -78,6 +78,6 @@ returns g c =
       links = gone;
       told = s.told;
       node_room = s.room;
-      link_room = c.swap-remove.ensures.room;
+      link_room = c.swap_remove.ensures.room;
       memory = same;
     }

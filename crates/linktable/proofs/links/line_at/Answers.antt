@@ -14,6 +14,6 @@ returns c =
     let es = entries c.args.links.now in
     let place = c.args.place in
     let within : place < length es = omega (arith, c.len.ensures) in
-    let link : Link = (c.key-at.result, c.value-at-price.result) in
-    let is : link ≡ get_or es place link = pair_is _ _ _ (c.key-at.ensures link) (c.value-at-price.ensures link) in
+    let link : Link = (c.key_at.result, c.value_at-price.result) in
+    let is : link ≡ get_or es place link = pair_is _ _ _ (c.key_at.ensures link) (c.value_at-price.ensures link) in
     sym (ap (listed place) (slice_get-get_or es place link within ∙ ap Some (sym is)))

@@ -1,4 +1,4 @@
-use Rattle.std.proofs.Common.{◌≡◌, ◌<◌, length, sym, ap, ◌∙◌}
+use Rattle.std.proofs.Common.{sym, ap, ◌∙◌}
 use Rattle.std.proofs.lemmas.Option.{slice_get-get_or}
 use Rattle.lists.proofs.Positions.{found_within}
 use Rattle.table.specs.Tables.{entries}
@@ -7,8 +7,8 @@ use Rattle.commands.specs.declared.answers.Answer.TheVariants as answer
 use Rattle.linktable.specs.Links.{Link, quoted, told_price}
 use Rattle.linktable.proofs.links.quote.Goals as goal
 
-pub value-at-requires : goal.value-at-requires
-value-at-requires c = record {
+pub value_at-requires : goal.value_at-requires
+value_at-requires c = record {
   sound = c.requires.sound;
   place = found_within _ (entries c.args.links.now) c.in-Ok.place (found_place _ _ _ (sym c.in-Ok.is ∙ c.find.ensures));
 }
@@ -19,6 +19,6 @@ returns-in-Ok c =
     let place = c.in-Ok.place in
     let found = found_place _ _ _ (sym c.in-Ok.is ∙ c.find.ensures) in
     let none : Link = ((record { 0 = 0 }, record { 0 = 0 }), record { 0 = 0 }) in
-    ap (λ z. answer.Quoted z place) (c.value-at.ensures none)
+    ap (λ z. answer.Quoted z place) (c.value_at.ensures none)
     ∙ (sym (ap (told_price place) (slice_get-get_or (entries t) place none (found_within _ (entries t) place found)))
     ∙ ap (quoted (entries t)) (sym found))

@@ -11,11 +11,11 @@ returns-else-taken c =
     let t = c.args.links.now in
     let x = c.in-Some.taken in
     record {
-      sound = c.swap-remove.ensures.sound;
+      sound = c.swap_remove.ensures.sound;
       done =
-          ap (λ z. (answer.Removed x.entry.1 x.gap z, entries c.swap-remove.new.self))
+          ap (λ z. (answer.Removed x.entry.1 x.gap z, entries c.swap_remove.new.self))
           (sym (cond-false (eqb x.last x.gap) _ (Some x.last) (ne_eqb _ _ c.if-taken.false)))
           ∙ (ap told_taken c.in-Some.ensures.done
           ∙ ap (removed (entries t)) (sym (found_place _ _ _ (sym c.in-Ok.is ∙ c.find.ensures))));
-      room = c.swap-remove.ensures.room;
+      room = c.swap_remove.ensures.room;
     }

@@ -2,8 +2,8 @@ use borrow.Author.Rules.{scaled_Fits}
 use Rattle.rows.proofs.Puts.{last_put, prev_put}
 use Rattle.rows.proofs.links.set_prev.Goals as goal
 
-pub offset-bounds-cells-a : goal.offset-bounds-cells-a
-offset-bounds-cells-a g c =
+pub offset_bounds-cells-a : goal.offset_bounds-cells-a
+offset_bounds-cells-a g c =
     let l = c.requires c.if-a-eq-NONE.false in search scaled_Fits
 
 pub bounds-cells-a : goal.bounds-cells-a

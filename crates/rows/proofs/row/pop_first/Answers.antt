@@ -6,8 +6,8 @@ use Rattle.rows.proofs.Lists.{row_linked, listed_is, listed_first, first_within,
 use Rattle.rows.proofs.Edits.{pop_first_row, pop_first_kept}
 use Rattle.rows.proofs.row.pop_first.Goals as goal
 
-pub offset-bounds-cells-first : goal.offset-bounds-cells-first
-offset-bounds-cells-first g c = let l = first_within c.requires.linked c.requires.small c.requires.some in search scaled_Fits
+pub offset_bounds-cells-first : goal.offset_bounds-cells-first
+offset_bounds-cells-first g c = let l = first_within c.requires.linked c.requires.small c.requires.some in search scaled_Fits
 
 pub bounds-cells-first : goal.bounds-cells-first
 bounds-cells-first g c = first_within c.requires.linked c.requires.small c.requires.some
@@ -15,8 +15,8 @@ bounds-cells-first g c = first_within c.requires.linked c.requires.small c.requi
 pub bounds-cells-first-2 : goal.bounds-cells-first-2
 bounds-cells-first-2 g c = first_within c.requires.linked c.requires.small c.requires.some
 
-pub set-prev-requires : goal.set-prev-requires
-set-prev-requires g c κs some =
+pub set_prev-requires : goal.set_prev-requires
+set_prev-requires g c κs some =
     let l = c.requires.linked in
     let q = first_next l c.requires.small c.requires.some c.index-cells-first.result in
     omega (arith, q, nth_within l.ring c.requires.small 1 (λ e. some (q ∙ e)))
@@ -26,8 +26,8 @@ returns g c =
     let mem = c.args.cells.now in
     let h = c.args.row.now in
     let small = c.requires.small in
-    let s1 = c.set-next.ensures in
-    let s2 = c.set-prev.ensures in
+    let s1 = c.set_next.ensures in
+    let s2 = c.set_prev.ensures in
     let split = listed_first mem h c.requires.some in
     let l = subst (Row mem h) split c.requires.linked in
     let q = first_next l small c.requires.some c.index-cells-first.result in
@@ -35,5 +35,5 @@ returns g c =
     record {
       linked = row_linked row (omega arith);
       rest = split ∙ ap (λ xs. h.first ∷ xs) (sym (listed_is row (omega arith)));
-      kept = subst (Kept mem c.set-prev.new.cells) (sym split) (pop_first_kept l small (omega arith) q s1 s2);
+      kept = subst (Kept mem c.set_prev.new.cells) (sym split) (pop_first_kept l small (omega arith) q s1 s2);
     }

@@ -5,8 +5,8 @@ use Rattle.rows.proofs.Lists.{row_linked, listed_is, last_nth, last_within, last
 use Rattle.rows.proofs.Edits.{pop_last_row, pop_last_kept}
 use Rattle.rows.proofs.row.pop_last.Goals as goal
 
-pub offset-bounds-cells-last : goal.offset-bounds-cells-last
-offset-bounds-cells-last g c = let l = last_within c.requires.linked c.requires.small c.requires.some in search scaled_Fits
+pub offset_bounds-cells-last : goal.offset_bounds-cells-last
+offset_bounds-cells-last g c = let l = last_within c.requires.linked c.requires.small c.requires.some in search scaled_Fits
 
 pub bounds-cells-last : goal.bounds-cells-last
 bounds-cells-last g c = last_within c.requires.linked c.requires.small c.requires.some
@@ -14,8 +14,8 @@ bounds-cells-last g c = last_within c.requires.linked c.requires.small c.require
 pub bounds-cells-last-2 : goal.bounds-cells-last-2
 bounds-cells-last-2 g c = last_within c.requires.linked c.requires.small c.requires.some
 
-pub set-next-requires : goal.set-next-requires
-set-next-requires g c κs some =
+pub set_next-requires : goal.set_next-requires
+set_next-requires g c κs some =
     let l = c.requires.linked in
     let small = c.requires.small in
     let m = c.args.row.now.len - 1 in
@@ -26,8 +26,8 @@ pub returns : goal.returns
 returns g c =
     let l = c.requires.linked in
     let small = c.requires.small in
-    let s1 = c.set-next.ensures in
-    let s2 = c.set-prev.ensures in
+    let s1 = c.set_next.ensures in
+    let s2 = c.set_prev.ensures in
     let p = last_prev l small c.requires.some c.index-cells-last.result in
     let row = pop_last_row l small (omega arith) c.requires.some p s1 s2 in
     record {

@@ -5,8 +5,8 @@ use Rattle.rows.proofs.Lists.{row_linked, listed_is, held_within, at_prev, at_ne
 use Rattle.rows.proofs.Edits.{replace_row, replace_kept}
 use Rattle.rows.proofs.row.replace.Goals as goal
 
-pub offset-bounds-cells-old : goal.offset-bounds-cells-old
-offset-bounds-cells-old g c = let l = held_within c.requires.linked c.requires.small c.requires.held in search scaled_Fits
+pub offset_bounds-cells-old : goal.offset_bounds-cells-old
+offset_bounds-cells-old g c = let l = held_within c.requires.linked c.requires.small c.requires.held in search scaled_Fits
 
 pub bounds-cells-old : goal.bounds-cells-old
 bounds-cells-old g c = held_within c.requires.linked c.requires.small c.requires.held
@@ -20,21 +20,21 @@ bounds-cells-old-3 g c = held_within c.requires.linked c.requires.small c.requir
 pub bounds-cells-old-4 : goal.bounds-cells-old-4
 bounds-cells-old-4 g c = held_within c.requires.linked c.requires.small c.requires.held
 
-pub set-next-requires : goal.set-next-requires
-set-next-requires g c κs some = c.requires.within
+pub set_next-requires : goal.set_next-requires
+set_next-requires g c κs some = c.requires.within
 
-pub set-prev-requires : goal.set-prev-requires
-set-prev-requires g c κs some = omega arith
+pub set_prev-requires : goal.set_prev-requires
+set_prev-requires g c κs some = omega arith
 
-pub set-next-requires-2 : goal.set-next-requires-2
-set-next-requires-2 g c κs some =
+pub set_next-requires-2 : goal.set_next-requires-2
+set_next-requires-2 g c κs some =
     let l = c.requires.linked in
     let held = c.requires.held in
     let p = at_prev l c.requires.small held.0 held.1 held.2 c.index-cells-old.result in
     omega (arith, p, before_within l.ring c.requires.small held.0 (omega arith) (λ e. some (p ∙ e)))
 
-pub set-prev-requires-2 : goal.set-prev-requires-2
-set-prev-requires-2 g c κs some =
+pub set_prev-requires-2 : goal.set_prev-requires-2
+set_prev-requires-2 g c κs some =
     let l = c.requires.linked in
     let held = c.requires.held in
     let q = at_next l c.requires.small held.0 held.1 held.2 c.index-cells-old-2.result in
@@ -45,10 +45,10 @@ returns g c =
     let l = c.requires.linked in
     let small = c.requires.small in
     let held = c.requires.held in
-    let s1 = c.set-next.ensures in
-    let s2 = c.set-prev.ensures in
-    let s3 = c.set-next-2.ensures in
-    let s4 = c.set-prev-2.ensures in
+    let s1 = c.set_next.ensures in
+    let s2 = c.set_prev.ensures in
+    let s3 = c.set_next-2.ensures in
+    let s4 = c.set_prev-2.ensures in
     let row =
     replace_row l small (omega arith) c.requires.within c.requires.fresh
     (λ i li e. at_prev l small i li e c.index-cells-old.result)

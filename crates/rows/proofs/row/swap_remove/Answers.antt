@@ -8,9 +8,9 @@ replace-requires g c =
     let row = c.requires.linked in
     let small = c.requires.small in
     let m = c.args.row.now.len - 1 in
-    let p = c.pop-last-last.ensures in
-    let t = c.pop-last-last.result in
-    let ys = listed c.pop-last-last.new.cells c.pop-last-last.new.row in
+    let p = c.pop_last-last.ensures in
+    let t = c.pop_last-last.result in
+    let ys = listed c.pop_last-last.new.cells c.pop_last-last.new.row in
     let long : length (listed c.args.cells.now c.args.row.now) ≡ suc m = omega (arith, row.long, c.requires.held.1) in
     record {
       small = omega arith;
@@ -25,10 +25,10 @@ returns-then-last-c g c =
     let row = c.requires.linked in
     let small = c.requires.small in
     let m = c.args.row.now.len - 1 in
-    let p = c.pop-last-last.ensures in
-    let t = c.pop-last-last.result in
+    let p = c.pop_last-last.ensures in
+    let t = c.pop_last-last.result in
     let r = c.replace.ensures in
-    let ys = listed c.pop-last-last.new.cells c.pop-last-last.new.row in
+    let ys = listed c.pop_last-last.new.cells c.pop_last-last.new.row in
     let long : length (listed c.args.cells.now c.args.row.now) ≡ suc m = omega (arith, row.long, c.requires.held.1) in
     record {
       linked = r.linked;
@@ -42,9 +42,9 @@ pub returns-else-last-c : goal.returns-else-last-c
 returns-else-last-c g c =
     let row = c.requires.linked in
     let m = c.args.row.now.len - 1 in
-    let p = c.pop-last-last.ensures in
-    let t = c.pop-last-last.result in
-    let ys = listed c.pop-last-last.new.cells c.pop-last-last.new.row in
+    let p = c.pop_last-last.ensures in
+    let t = c.pop_last-last.result in
+    let ys = listed c.pop_last-last.new.cells c.pop_last-last.new.row in
     let long : length (listed c.args.cells.now c.args.row.now) ≡ suc m = omega (arith, row.long, c.requires.held.1) in
     record {
       linked = p.linked;

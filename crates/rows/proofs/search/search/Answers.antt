@@ -8,11 +8,11 @@ inside : (g : given.Over) (c : goal.Else-left-eq0 g) → c.loop-left.x < length 
 inside g c =
     inside_here c.args.cells.now c.loop-left.x c.loop-left.left (omega arith) c.loop-left.invariant.0
 
-pub overflow-cast-cell : goal.overflow-cast-cell
-overflow-cast-cell g c = omega (arith, inside g c, c.requires.small)
+pub overflow_cast-cell : goal.overflow_cast-cell
+overflow_cast-cell g c = omega (arith, inside g c, c.requires.small)
 
-pub offset-bounds-cells-x : goal.offset-bounds-cells-x
-offset-bounds-cells-x g c = omega (arith, inside g c)
+pub offset_bounds-cells-x : goal.offset_bounds-cells-x
+offset_bounds-cells-x g c = omega (arith, inside g c)
 
 pub bounds-cells-x : goal.bounds-cells-x
 bounds-cells-x g c = inside g c

@@ -13,11 +13,11 @@ loop-preserved g c e =
     let one_more : suc left ≡ c.args.k - c.loop.counter = omega arith in
     nth_rest all _ c.advance.result (c.advance.ensures e) left ∙ ap (slice_get all) one_more ∙ c.loop.invariant e
 
-pub returns-in-err-advance : goal.returns-in-err-advance
-returns-in-err-advance g c e =
+pub returns-in_err-advance : goal.returns-in_err-advance
+returns-in_err-advance g c e =
     let left = c.args.k - c.loop.counter in
     c.from-residual.ensures
-    ∙ nth_none _ _ c.advance.result (c.advance.ensures e) c.in-err-advance.was left
+    ∙ nth_none _ _ c.advance.result (c.advance.ensures e) c.in_err-advance.was left
     ∙ c.loop.invariant e
 
 pub returns : goal.returns

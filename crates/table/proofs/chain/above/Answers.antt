@@ -1,25 +1,22 @@
-use Rattle.std.proofs.Common.{◌≡◌, ℕ, ◌*◌, ◌<◌, ◌≤◌, length, sym, refl, ap, ◌∙◌, arith}
-use Rattle.lists.specs.Latest.{latest}
-use Rattle.lists.specs.Chains.{ChainsBut}
-use Rattle.table.specs.Slots.{headed, nexts, at, two, none}
-use Rattle.table.specs.Index.{bucket_of, capacity_of}
+use Rattle.std.proofs.Common.{◌<◌, ◌≤◌, sym, ◌∙◌, arith}
+use Rattle.table.specs.Slots.{none}
 use Rattle.table.proofs.Capacity.{within_memory, within_links, bucket_slot}
 use Rattle.table.proofs.Walks.{link_place, link_next, above_from}
 use Rattle.table.proofs.chain.above.Goals as goal
 
-pub head-of-link-requires : goal.head-of-link-requires
-head-of-link-requires g c = bucket_slot c.args.slots.now c.args.b c.requires.bucket
+pub head_of-link-requires : goal.head_of-link-requires
+head_of-link-requires g c = bucket_slot c.args.slots.now c.args.b c.requires.bucket
 
 pub loop-link-init : goal.loop-link-init
 loop-link-init g c = (
   c.requires.place,
   omega arith,
   λ lt. let no : ⊥ = omega arith in absurd no,
-  (c.requires.chained, c.head-of-link.ensures.value ∙ c.requires.chained.chains.heads c.args.b c.requires.bucket),
+  (c.requires.chained, c.head_of-link.ensures.value ∙ c.requires.chained.chains.heads c.args.b c.requires.bucket),
 )
 
-pub next-of-link-requires : goal.next-of-link-requires
-next-of-link-requires g c =
+pub next_of-link-requires : goal.next_of-link-requires
+next_of-link-requires g c =
     let small : c.args.n ≤ none = omega (arith, c.requires.small, within_links c.args.slots.now) in
     let h = link_place none _ c.args.n _ _ _ c.loop-link.invariant.3.0.chains small c.args.b c.requires.bucket c.loop-link.p c.loop-link.link
     c.loop-link.invariant.1 c.loop-link.invariant.3.1 c.loop-link-test.true in
@@ -42,7 +39,7 @@ loop-link-preserved g c =
       c.if-link-g.true,
       omega arith,
       λ _. sym (C.agrees link (omega arith)) ∙ h.1,
-      (C, link_next none _ c.args.n _ _ _ C.chains small c.args.b c.requires.bucket link c.next-of-link.result low h.1 c.next-of-link.ensures.value),
+      (C, link_next none _ c.args.n _ _ _ C.chains small c.args.b c.requires.bucket link c.next_of-link.result low h.1 c.next_of-link.ensures.value),
     )
 
 pub returns-else-link-g : goal.returns-else-link-g

@@ -1,6 +1,5 @@
-use Rattle.std.proofs.Common.{◌≡◌, ◌*◌, ◌<◌, ◌≤◌}
+use Rattle.std.proofs.Common.{◌≡◌, ◌<◌, ◌≤◌}
 use Rattle.lists.specs.Latest.{latest}
-use Rattle.lists.specs.Chains.{ChainsBut}
 use Rattle.table.specs.Slots.{none}
 use Rattle.table.specs.Index.{bucket_of, ChainedBut}
 use Rattle.table.proofs.chain.above.Given as goal

@@ -1,4 +1,4 @@
-use Rattle.std.proofs.Common.{◌≡◌, ℕ, ◌*◌, ◌<◌, ◌≤◌, List, length, sym, refl, ap, ◌∙◌, arith}
+use Rattle.std.proofs.Common.{◌≡◌, ◌*◌, length, sym, ◌∙◌, arith}
 use Rattle.std.proofs.lemmas.List.{length-map}
 use Rattle.lists.specs.Chains.{Above}
 use Rattle.lists.proofs.Chains.{linked}
@@ -33,8 +33,8 @@ holds-v-requires g c =
       holder = c.above-p.ensures.within;
     }
 
-pub set-next-requires : goal.set-next-requires
-set-next-requires g c = record {
+pub set_next-requires : goal.set_next-requires
+set_next-requires g c = record {
   within = omega (arith, c.requires.place, c.requires.small, within_memory c.args.slots.now);
   fits = c.holds-v.ensures.fits;
 }
@@ -52,7 +52,7 @@ put-requires g c =
 pub returns : goal.returns
 returns g c =
     let s = c.args.slots.now in
-    let r = c.set-next.new.slots in
+    let r = c.set_next.new.slots in
     let t = c.put.new.slots in
     let n = c.args.n in
     let h = bucket_of g.K.NodeTrait.hashed s in
@@ -63,15 +63,15 @@ returns g c =
     record {
       chained =
           settled g.K.NodeTrait.hashed (capacity_of s) (capacity_of t) n (pairs s) (pairs t) (two (headed t)) (at (nexts t))
-          (same_capacity s t same) (c.put.ensures.pair ∙ c.set-next.ensures.pair)
+          (same_capacity s t same) (c.put.ensures.pair ∙ c.set_next.ensures.pair)
           (linked none buckets n c.args.b c.args.g c.above-p.result c.holds-v.result (off buckets c.args.g h) (two (headed s)) (at (nexts s))
           h (two (headed t)) (at (nexts r)) (at (nexts t))
           (omega (arith, c.requires.small, within_links s)) c.requires.chained A c.requires.place c.requires.bucket (omega (arith, off_here buckets c.args.g h))
           (c.holds-v.ensures.value ∙ held_latest buckets n c.args.b c.above-p.result _ _ _ c.requires.chained c.requires.bucket A.within A.here)
-          (at_set (nexts s) (nexts r) c.args.g _ c.set-next.ensures.next (simp length-map (omega (arith, c.requires.place, c.requires.small, within_memory s))))
-          (at_other (nexts s) (nexts r) c.args.g _ c.set-next.ensures.next)
-          (put_after n c.args.b c.above-p.result c.args.g (headed s) (headed r) _ _ _ c.set-next.ensures.heads c.put.ensures.put)
+          (at_set (nexts s) (nexts r) c.args.g _ c.set_next.ensures.next (simp length-map (omega (arith, c.requires.place, c.requires.small, within_memory s))))
+          (at_other (nexts s) (nexts r) c.args.g _ c.set_next.ensures.next)
+          (put_after n c.args.b c.above-p.result c.args.g (headed s) (headed r) _ _ _ c.set_next.ensures.heads c.put.ensures.put)
           c.requires.home (λ i ne. sym (off_other buckets c.args.g h i ne)));
-      marks = c.put.ensures.marks ∙ c.set-next.ensures.marks;
-      pair = c.put.ensures.pair ∙ c.set-next.ensures.pair;
+      marks = c.put.ensures.marks ∙ c.set_next.ensures.marks;
+      pair = c.put.ensures.pair ∙ c.set_next.ensures.pair;
     }

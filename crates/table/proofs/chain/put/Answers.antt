@@ -8,9 +8,9 @@ pub returns-then-p-n : goal.returns-then-p-n
 returns-then-p-n g c = record {
   put =
       put_head _ _ _ _ (headed c.args.slots.now) _ (nexts c.args.slots.now) _ c.if-p-n.true
-      c.set-head.ensures.heads c.set-head.ensures.next;
-  marks = c.set-head.ensures.marks;
-  pair = c.set-head.ensures.pair;
+      c.set_head.ensures.heads c.set_head.ensures.next;
+  marks = c.set_head.ensures.marks;
+  pair = c.set_head.ensures.pair;
 }
 
 pub returns-else-p-n : goal.returns-else-p-n
@@ -20,7 +20,7 @@ returns-else-p-n g c =
     record {
       put =
           put_link _ _ _ _ (headed c.args.slots.now) _ (nexts c.args.slots.now) _ pn (simp length-map lt)
-          c.set-next.ensures.heads c.set-next.ensures.next;
-      marks = c.set-next.ensures.marks;
-      pair = c.set-next.ensures.pair;
+          c.set_next.ensures.heads c.set_next.ensures.next;
+      marks = c.set_next.ensures.marks;
+      pair = c.set_next.ensures.pair;
     }

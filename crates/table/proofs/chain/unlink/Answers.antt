@@ -1,4 +1,4 @@
-use Rattle.std.proofs.Common.{◌≡◌, ℕ, ◌*◌, ◌<◌, ◌≤◌, length, sym, refl, ap, ◌∙◌, arith}
+use Rattle.std.proofs.Common.{◌≡◌, ◌*◌, length, refl, arith}
 use Rattle.lists.proofs.Chains.{unlinked}
 use Rattle.table.specs.Slots.{pairs, headed, nexts, at, two, none}
 use Rattle.table.specs.Index.{bucket_of, capacity_of, off}
@@ -14,8 +14,8 @@ above-p-requires g c = record {
   place = c.requires.place;
 }
 
-pub next-of-v-requires : goal.next-of-v-requires
-next-of-v-requires g c = omega (arith, c.requires.place, c.requires.small, within_memory c.args.slots.now)
+pub next_of-v-requires : goal.next_of-v-requires
+next_of-v-requires g c = omega (arith, c.requires.place, c.requires.small, within_memory c.args.slots.now)
 
 pub put-requires : goal.put-requires
 put-requires g c =
@@ -24,7 +24,7 @@ put-requires g c =
       small = omega (arith, c.requires.small, within_memory s);
       bucket = bucket_slot s c.args.b c.requires.bucket;
       holder = c.above-p.ensures.within;
-      fits = c.next-of-v.ensures.fits;
+      fits = c.next_of-v.ensures.fits;
     }
 
 pub returns : goal.returns
@@ -39,10 +39,10 @@ returns g c =
       chained =
           settled_off g.K.NodeTrait.hashed (capacity_of s) (capacity_of t) n (pairs s) (pairs t) (two (headed t)) (at (nexts t))
           (same_capacity s t same) c.put.ensures.pair c.args.g
-          (unlinked none buckets n c.args.b c.args.g c.above-p.result c.next-of-v.result h (two (headed s)) (at (nexts s))
+          (unlinked none buckets n c.args.b c.args.g c.above-p.result c.next_of-v.result h (two (headed s)) (at (nexts s))
           (off buckets c.args.g h) (two (headed t)) (at (nexts t))
           (omega (arith, c.requires.small, within_links s)) c.requires.chained c.above-p.ensures c.requires.place c.requires.bucket c.requires.home
-          c.next-of-v.ensures.value c.put.ensures.put (omega (arith, off_here buckets c.args.g h)) (off_other buckets c.args.g h));
+          c.next_of-v.ensures.value c.put.ensures.put (omega (arith, off_here buckets c.args.g h)) (off_other buckets c.args.g h));
       marks = c.put.ensures.marks;
       pair = c.put.ensures.pair;
     }

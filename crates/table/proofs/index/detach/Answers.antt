@@ -1,4 +1,4 @@
-use Rattle.std.proofs.Common.{◌≡◌, suc, ◌+◌, ◌*◌, ◌<◌, length, sym, ◌∙◌, add-one, arith}
+use Rattle.std.proofs.Common.{suc, ◌*◌, sym, ◌∙◌, add-one, arith}
 use Rattle.lists.specs.Chains.{Chains}
 use Rattle.lists.proofs.Chains.{popped}
 use Rattle.table.specs.Slots.{pairs, headed, nexts, at, two, none}
@@ -7,19 +7,19 @@ use Rattle.table.proofs.Capacity.{within_memory, bucket_slot}
 use Rattle.table.proofs.Writes.{same_capacity, settled, relinked}
 use Rattle.table.proofs.index.detach.Goals as goal
 
-pub next-of-after-requires : goal.next-of-after-requires
-next-of-after-requires g c = omega (arith, c.requires.fits, within_memory c.args.slots.now)
+pub next_of-after-requires : goal.next_of-after-requires
+next_of-after-requires g c = omega (arith, c.requires.fits, within_memory c.args.slots.now)
 
-pub set-head-requires : goal.set-head-requires
-set-head-requires g c = record {
+pub set_head-requires : goal.set_head-requires
+set_head-requires g c = record {
   within = bucket_slot c.args.slots.now c.args.b c.requires.bucket;
-  fits = c.next-of-after.ensures.fits;
+  fits = c.next_of-after.ensures.fits;
 }
 
 pub returns : goal.returns
 returns g c =
     let s = c.args.slots.now in
-    let t = c.set-head.new.slots in
+    let t = c.set_head.new.slots in
     let last = c.args.last in
     let h = bucket_of g.K.NodeTrait.hashed s in
     let buckets = 2 * capacity_of s in
@@ -27,10 +27,10 @@ returns g c =
     record {
       chained =
           settled g.K.NodeTrait.hashed (capacity_of s) (capacity_of t) last (pairs s) (pairs t) (two (headed t)) (at (nexts t))
-          (same_capacity s t (omega arith)) c.set-head.ensures.pair
-          (relinked buckets last h (two (headed t)) (nexts s) (nexts t) c.set-head.ensures.next
+          (same_capacity s t (omega arith)) c.set_head.ensures.pair
+          (relinked buckets last h (two (headed t)) (nexts s) (nexts t) c.set_head.ensures.next
           (popped none buckets last c.args.b h (two (headed s)) (at (nexts s)) (two (headed t)) L c.requires.home c.requires.bucket
-          (c.set-head.ensures.heads.here ∙ c.next-of-after.ensures.value) c.set-head.ensures.heads.there));
-      marks = c.set-head.ensures.marks;
-      pair = c.set-head.ensures.pair;
+          (c.set_head.ensures.heads.here ∙ c.next_of-after.ensures.value) c.set_head.ensures.heads.there));
+      marks = c.set_head.ensures.marks;
+      pair = c.set_head.ensures.pair;
     }

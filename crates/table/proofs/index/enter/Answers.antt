@@ -14,37 +14,37 @@ use Rattle.table.proofs.Moves.{written_home, other_home, written_tag, other_tag}
 use Rattle.table.proofs.Writes.{same_capacity, settled, two_same}
 use Rattle.table.proofs.index.enter.Goals as goal
 
-pub set-pair-requires : goal.set-pair-requires
-set-pair-requires g c = omega (arith, c.requires.fits, within_memory c.args.slots.now)
+pub set_pair-requires : goal.set_pair-requires
+set_pair-requires g c = omega (arith, c.requires.fits, within_memory c.args.slots.now)
 
-pub head-of-head-requires : goal.head-of-head-requires
-head-of-head-requires g c = omega (arith, bucket_slot c.args.slots.now c.args.w.home c.requires.bucket)
+pub head_of-head-requires : goal.head_of-head-requires
+head_of-head-requires g c = omega (arith, bucket_slot c.args.slots.now c.args.w.home c.requires.bucket)
 
-pub set-next-requires : goal.set-next-requires
-set-next-requires g c = record {
+pub set_next-requires : goal.set_next-requires
+set_next-requires g c = record {
   within = omega (arith, c.requires.fits, within_memory c.args.slots.now);
-  fits = c.head-of-head.ensures.fits;
+  fits = c.head_of-head.ensures.fits;
 }
 
-pub set-head-requires : goal.set-head-requires
-set-head-requires g c = record {
+pub set_head-requires : goal.set_head-requires
+set_head-requires g c = record {
   within = omega (arith, bucket_slot c.args.slots.now c.args.w.home c.requires.bucket);
   fits = omega (arith, c.requires.fits, within_links c.args.slots.now);
 }
 
-pub marks-of-marks-requires : goal.marks-of-marks-requires
-marks-of-marks-requires g c = omega (arith, bucket_slot c.args.slots.now c.args.w.home c.requires.bucket)
+pub marks_of-marks-requires : goal.marks_of-marks-requires
+marks_of-marks-requires g c = omega (arith, bucket_slot c.args.slots.now c.args.w.home c.requires.bucket)
 
-pub set-marks-requires : goal.set-marks-requires
-set-marks-requires g c = omega (arith, bucket_slot c.args.slots.now c.args.w.home c.requires.bucket)
+pub set_marks-requires : goal.set_marks-requires
+set_marks-requires g c = omega (arith, bucket_slot c.args.slots.now c.args.w.home c.requires.bucket)
 
 pub returns : goal.returns
 returns g c =
     let s = c.args.slots.now in
-    let p = c.set-pair.new.slots in
-    let r = c.set-next.new.slots in
-    let q = c.set-head.new.slots in
-    let t = c.set-marks.new.slots in
+    let p = c.set_pair.new.slots in
+    let r = c.set_next.new.slots in
+    let q = c.set_head.new.slots in
+    let t = c.set_marks.new.slots in
     let len = c.args.len in
     let b = c.args.w.home in
     let k = c.args.w.mark in
@@ -52,18 +52,18 @@ returns g c =
     let cap = capacity_of s in
     let e : g.row.K.Denot × g.row.V.Denot = (c.args.k, c.args.v) in
     let pair : pairs t ≡ set (pairs s) len e =
-    c.set-marks.ensures.pair ∙ (c.set-head.ensures.pair ∙ (c.set-next.ensures.pair ∙ c.set-pair.ensures.pair)) in
+    c.set_marks.ensures.pair ∙ (c.set_head.ensures.pair ∙ (c.set_next.ensures.pair ∙ c.set_pair.ensures.pair)) in
     let in_pairs : len < length (pairs s) = simp length-map (omega (arith, c.requires.fits, within_memory s)) in
-    let next : nexts t ≡ set (nexts s) len c.head-of-head.result =
-    c.set-marks.ensures.next
-    ∙ (c.set-head.ensures.next
-    ∙ (c.set-next.ensures.next ∙ ap (λ (l : List ℕ). set l len c.head-of-head.result) c.set-pair.ensures.next)) in
+    let next : nexts t ≡ set (nexts s) len c.head_of-head.result =
+    c.set_marks.ensures.next
+    ∙ (c.set_head.ensures.next
+    ∙ (c.set_next.ensures.next ∙ ap (λ (l : List ℕ). set l len c.head_of-head.result) c.set_pair.ensures.next)) in
     let in-nexts : len < length (nexts s) = simp length-map (omega (arith, c.requires.fits, within_memory s)) in
     let before : (x : ℕ) → two (headed r) x ≡ two (headed s) x =
-    two_same (headed s) (headed r) (c.set-next.ensures.heads ∙ c.set-pair.ensures.heads) in
-    let after : (x : ℕ) → two (headed t) x ≡ two (headed q) x = two_same (headed q) (headed t) c.set-marks.ensures.heads in
+    two_same (headed s) (headed r) (c.set_next.ensures.heads ∙ c.set_pair.ensures.heads) in
+    let after : (x : ℕ) → two (headed t) x ≡ two (headed q) x = two_same (headed q) (headed t) c.set_marks.ensures.heads in
     let old : (x : ℕ) → two (marked q) x ≡ two (marked s) x =
-    two_same (marked s) (marked q) (c.set-head.ensures.marks ∙ (c.set-next.ensures.marks ∙ c.set-pair.ensures.marks)) in
+    two_same (marked s) (marked q) (c.set_head.ensures.marks ∙ (c.set_next.ensures.marks ∙ c.set_pair.ensures.marks)) in
     let h' = at (homes hashed cap (pairs t)) in
     let at_home : h' len ≡ b =
     written_home len (pairs s) (pairs t) e pair hashed cap in_pairs ∙ sym (ap (λ (z : Vacancy). z.home) c.requires.hashed) in
@@ -73,9 +73,9 @@ returns g c =
     let L : Chains none (2 * cap) (suc len) h' (two (headed t)) (at (nexts t)) =
     pushed none (2 * cap) len b (at (homes hashed cap (pairs s))) (two (headed s)) (at (nexts s)) h' (two (headed t)) (at (nexts t)) c.requires.chained
     at_home (other_home len (pairs s) (pairs t) e pair hashed cap)
-    (at_set (nexts s) (nexts t) len _ next in-nexts ∙ (c.head-of-head.ensures.value ∙ two_same (headed s) (headed p) c.set-pair.ensures.heads b))
+    (at_set (nexts s) (nexts t) len _ next in-nexts ∙ (c.head_of-head.ensures.value ∙ two_same (headed s) (headed p) c.set_pair.ensures.heads b))
     (at_other (nexts s) (nexts t) len _ next)
-    (after b ∙ c.set-head.ensures.heads.here) (λ x ne. after x ∙ (c.set-head.ensures.heads.there x ne ∙ before x)) in
+    (after b ∙ c.set_head.ensures.heads.here) (λ x ne. after x ∙ (c.set_head.ensures.heads.there x ne ∙ before x)) in
     record {
       chained =
           settled hashed cap (capacity_of t) (len + 1) (pairs t) (pairs t) (two (headed t)) (at (nexts t)) (same_capacity s t (omega arith)) refl (rw (add-one len) L);
@@ -83,8 +83,8 @@ returns g c =
           ap (λ z. bit_of (two (marked t) (at (homes hashed z (pairs t)) i)) (at (tags hashed (pairs t)) i)) (same_capacity s t (omega arith))
           ∙ marks_pushed len b k (at (homes hashed cap (pairs s))) (at (tags hashed (pairs s))) (two (marked s)) h' (at (tags hashed (pairs t))) (two (marked t)) c.requires.marks
           at_home at_tag (other_home len (pairs s) (pairs t) e pair hashed cap) (other_tag len (pairs s) (pairs t) e pair hashed)
-          (c.set-marks.ensures.marks.here
-          ∙ (ap (λ z. bit_or z (1 * 2 ^ k % 2 ^ 8)) (c.marks-of-marks.ensures ∙ old b) ∙ ap (λ z. bit_or (two (marked s) b) z) (one_shl k 8 small)))
-          (λ x ne. c.set-marks.ensures.marks.there x ne ∙ old x) i lt;
+          (c.set_marks.ensures.marks.here
+          ∙ (ap (λ z. bit_or z (1 * 2 ^ k % 2 ^ 8)) (c.marks_of-marks.ensures ∙ old b) ∙ ap (λ z. bit_or (two (marked s) b) z) (one_shl k 8 small)))
+          (λ x ne. c.set_marks.ensures.marks.there x ne ∙ old x) i lt;
       pair = pair;
     }

@@ -1,19 +1,18 @@
-use Rattle.std.proofs.Common.{◌≡◌, ℕ, ◌+◌, ◌-◌, ◌*◌, ◌<◌, ◌≤◌, length, get_or, set, sym, refl, ap, ◌∙◌, arith}
-use Rattle.std.proofs.lemmas.List.{length-map, length-set, get_or-set_same, get_or-set_other}
-use Rattle.lists.specs.Chains.{Chains}
+use Rattle.std.proofs.Common.{◌≡◌, ◌+◌, ◌-◌, ◌≤◌, length, get_or, set, sym, ap, ◌∙◌, arith}
+use Rattle.std.proofs.lemmas.List.{length-map, get_or-set_same, get_or-set_other}
 use Rattle.lists.proofs.Swap.{take_swap_removed}
-use Rattle.table.specs.Slots.{pairs, headed, nexts, at, two, none}
-use Rattle.table.specs.Index.{bucket_of, capacity_of, Chained, Marked}
+use Rattle.table.specs.Slots.{pairs}
+use Rattle.table.specs.Index.{capacity_of, Marked}
 use Rattle.table.proofs.Capacity.{within_memory}
 use Rattle.table.proofs.Moves.{marked_same, marked_moved}
 use Rattle.table.proofs.Writes.{same_capacity, same_bucket}
 use Rattle.table.proofs.index.extract.Goals as goal
 
-pub home-at-gone-requires : goal.home-at-gone-requires
-home-at-gone-requires g c = omega (arith, c.requires.place, c.requires.fits)
+pub home_at-gone-requires : goal.home_at-gone-requires
+home_at-gone-requires g c = omega (arith, c.requires.place, c.requires.fits)
 
-pub home-at-b-requires : goal.home-at-b-requires
-home-at-b-requires g c = omega (arith, c.requires.place, c.requires.fits)
+pub home_at-b-requires : goal.home_at-b-requires
+home_at-b-requires g c = omega (arith, c.requires.place, c.requires.fits)
 
 pub detach-requires : goal.detach-requires
 detach-requires g c =
@@ -21,8 +20,8 @@ detach-requires g c =
     let last : c.args.len - 1 + 1 ≡ c.args.len = omega (arith, c.requires.place) in
     record {
       fits = omega (arith, c.requires.place, c.requires.fits);
-      bucket = c.home-at-b.ensures.below;
-      home = sym c.home-at-b.ensures.home;
+      bucket = c.home_at-b.ensures.below;
+      home = sym c.home_at-b.ensures.home;
       chained = rw last c.requires.chained;
     }
 
@@ -33,7 +32,7 @@ tidy-requires g c =
     let same : capacity_of u ≡ capacity_of s = same_capacity s u (omega arith) in
     record {
       fits = omega (arith, c.requires.fits);
-      bucket = omega (arith, c.home-at-gone.ensures.below);
+      bucket = omega (arith, c.home_at-gone.ensures.below);
       chained = c.detach.ensures.chained;
       marks =
           marked_same g.K.NodeTrait.hashed s u c.args.len (c.args.len - 1) c.requires.marks (omega arith) c.detach.ensures.pair c.detach.ensures.marks (omega arith);
@@ -60,11 +59,11 @@ relocate-requires g c =
     let hashed = g.K.NodeTrait.hashed in
     record {
       fits = omega (arith, c.requires.place, c.requires.fits);
-      bucket = omega (arith, c.home-at-b.ensures.below);
-      home = same_bucket hashed s u c.detach.ensures.pair (omega arith) (c.args.len - 1) ∙ sym c.home-at-b.ensures.home;
+      bucket = omega (arith, c.home_at-b.ensures.below);
+      home = same_bucket hashed s u c.detach.ensures.pair (omega arith) (c.args.len - 1) ∙ sym c.home_at-b.ensures.home;
       place = omega arith;
-      old-bucket = omega (arith, c.home-at-gone.ensures.below);
-      old_home = same_bucket hashed s u c.detach.ensures.pair (omega arith) c.args.g ∙ sym c.home-at-gone.ensures.home;
+      old_bucket = omega (arith, c.home_at-gone.ensures.below);
+      old_home = same_bucket hashed s u c.detach.ensures.pair (omega arith) c.args.g ∙ sym c.home_at-gone.ensures.home;
       chained = c.detach.ensures.chained;
     }
 
@@ -78,7 +77,7 @@ tidy-requires-2 g c =
     let M : Marked g.K.NodeTrait.hashed s (c.args.len - 1 + 1) = rw last c.requires.marks in
     record {
       fits = omega (arith, c.requires.fits);
-      bucket = omega (arith, c.home-at-gone.ensures.below);
+      bucket = omega (arith, c.home_at-gone.ensures.below);
       chained = c.relocate.ensures.chained;
       marks =
           marked_moved g.K.NodeTrait.hashed s r (c.args.len - 1) c.args.g M (omega (arith, c.requires.place)) (omega (arith, c.requires.place, c.requires.fits, within_memory s))

@@ -6,22 +6,22 @@ use Rattle.table.proofs.Capacity.{within_memory, within_links}
 use Rattle.table.proofs.Homes.{home_at, home_below}
 use Rattle.table.proofs.index.home_at.Goals as goal
 
-pub key-of-requires : goal.key-of-requires
-key-of-requires g c = omega (arith, c.requires, within_memory c.args.slots.now)
+pub key_of-requires : goal.key_of-requires
+key_of-requires g c = omega (arith, c.requires, within_memory c.args.slots.now)
 
-pub home-of-requires : goal.home-of-requires
-home-of-requires g c = omega (arith, c.capacity-of.ensures, within_links c.args.slots.now)
+pub home_of-requires : goal.home_of-requires
+home_of-requires g c = omega (arith, c.capacity_of.ensures, within_links c.args.slots.now)
 
 pub returns : goal.returns
 returns g c =
     let s = c.args.slots.now in
-    let e : c.home-of.result ≡ home (capacity_of s) c.hash.result =
-    c.home-of.ensures ∙ ap (λ z. home z c.hash.result) c.capacity-of.ensures in
+    let e : c.home_of.result ≡ home (capacity_of s) c.hash.result =
+    c.home_of.ensures ∙ ap (λ z. home z c.hash.result) c.capacity_of.ensures in
     let lt : c.args.i < length s = omega (arith, c.requires, within_memory s) in
     record {
       home =
           e
-          ∙ (ap (λ z. home (capacity_of s) z) (sym (c.hash.ensures c.key-of.result refl))
-          ∙ sym (home_at g.K.NodeTrait.hashed (capacity_of s) (pairs s) c.args.i c.key-of.result (simp length-map lt) c.key-of.ensures));
+          ∙ (ap (λ z. home (capacity_of s) z) (sym (c.hash.ensures c.key_of.result refl))
+          ∙ sym (home_at g.K.NodeTrait.hashed (capacity_of s) (pairs s) c.args.i c.key_of.result (simp length-map lt) c.key_of.ensures));
       below = omega (arith, e, home_below (capacity_of s) c.hash.result (omega arith));
     }

@@ -1,42 +1,42 @@
-use Rattle.std.proofs.Common.{◌≡◌, ℕ, ◌*◌, ◌/◌, ◌<◌, ◌≤◌, ◌⊎◌, length, sym, refl, ap, ◌∙◌, inl, inr, arith}
+use Rattle.std.proofs.Common.{◌≡◌, ◌*◌, ◌<◌, sym, refl, ap, ◌∙◌, inl, inr, arith}
 use Rattle.std.proofs.lemmas.Bool.{cases_eq}
 use Rattle.lists.proofs.Latest.{latest_none}
-use Rattle.table.specs.Slots.{pairs, headed, two, none}
+use Rattle.table.specs.Slots.{headed, two, none}
 use Rattle.table.specs.Index.{capacity_of, bucket_of}
-use Rattle.table.proofs.Capacity.{within_memory, bucket_slot}
+use Rattle.table.proofs.Capacity.{bucket_slot}
 use Rattle.table.proofs.Writes.{same_capacity, same_bucket, two_same}
 use Rattle.table.proofs.index.release.Goals as goal
 
 pub loop-i-init : goal.loop-i-init
 loop-i-init g c = (refl, λ b lt. inr (refl, λ j l. let no : ⊥ = omega arith in absurd no))
 
-pub home-at-b-requires : goal.home-at-b-requires
-home-at-b-requires g c = omega (arith, c.requires.fits, same_capacity c.args.slots.now c.loop-i.slots (omega arith))
+pub home_at-b-requires : goal.home_at-b-requires
+home_at-b-requires g c = omega (arith, c.requires.fits, same_capacity c.args.slots.now c.loop-i.slots (omega arith))
 
-pub set-head-requires : goal.set-head-requires
-set-head-requires g c = record {
-  within = bucket_slot c.loop-i.slots c.home-at-b.result c.home-at-b.ensures.below;
+pub set_head-requires : goal.set_head-requires
+set_head-requires g c = record {
+  within = bucket_slot c.loop-i.slots c.home_at-b.result c.home_at-b.ensures.below;
   fits = omega arith;
 }
 
-pub set-marks-requires : goal.set-marks-requires
-set-marks-requires g c =
-    omega (arith, bucket_slot c.loop-i.slots c.home-at-b.result c.home-at-b.ensures.below)
+pub set_marks-requires : goal.set_marks-requires
+set_marks-requires g c =
+    omega (arith, bucket_slot c.loop-i.slots c.home_at-b.result c.home_at-b.ensures.below)
 
 pub loop-i-preserved : goal.loop-i-preserved
 loop-i-preserved g c =
     let s = c.args.slots.now in
     let t = c.loop-i.slots in
     let i = c.loop-i.i in
-    let b₀ = c.home-at-b.result in
+    let b₀ = c.home_at-b.result in
     let here : bucket_of g.K.NodeTrait.hashed s i ≡ b₀ =
-    sym (c.home-at-b.ensures.home ∙ same_bucket g.K.NodeTrait.hashed s t c.loop-i.invariant.0 (omega arith) i) in
-    let heads = c.set-head.ensures.heads in
-    let same = two_same (headed c.set-head.new.slots) (headed c.set-marks.new.slots) c.set-marks.ensures.heads in (
-      c.set-marks.ensures.pair ∙ (c.set-head.ensures.pair ∙ c.loop-i.invariant.0),
+    sym (c.home_at-b.ensures.home ∙ same_bucket g.K.NodeTrait.hashed s t c.loop-i.invariant.0 (omega arith) i) in
+    let heads = c.set_head.ensures.heads in
+    let same = two_same (headed c.set_head.new.slots) (headed c.set_marks.new.slots) c.set_marks.ensures.heads in (
+      c.set_marks.ensures.pair ∙ (c.set_head.ensures.pair ∙ c.loop-i.invariant.0),
       λ b lt.
           elim (cases_eq b b₀) [
-            | inl q ↦ inl (same b ∙ (ap (two (headed c.set-head.new.slots)) q ∙ heads.here))
+            | inl q ↦ inl (same b ∙ (ap (two (headed c.set_head.new.slots)) q ∙ heads.here))
             | inr ne ↦
                 elim (c.loop-i.invariant.1 b lt) [
                   | inl e ↦ inl (same b ∙ (heads.there b ne ∙ e))

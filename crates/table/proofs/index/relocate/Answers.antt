@@ -1,8 +1,8 @@
-use Rattle.std.proofs.Common.{◌≡◌, ℕ, ◌*◌, ◌<◌, ◌≤◌, List, length, get_or, set, sym, refl, ap, ◌∙◌, arith}
+use Rattle.std.proofs.Common.{◌≡◌, get_or, set, sym, ap, ◌∙◌, arith}
 use Rattle.std.proofs.lemmas.List.{length-map}
-use Rattle.table.specs.Slots.{pairs, headed, nexts, at, two, none}
+use Rattle.table.specs.Slots.{pairs, headed, nexts, at}
 use Rattle.table.specs.Index.{capacity_of, home, homes}
-use Rattle.table.proofs.Capacity.{within_memory, within_links}
+use Rattle.table.proofs.Capacity.{within_memory}
 use Rattle.table.proofs.Homes.{home_at}
 use Rattle.table.proofs.Lists.{pair_is}
 use Rattle.table.proofs.Moves.{moved_off, written_home}
@@ -13,51 +13,51 @@ pub unlink-requires : goal.unlink-requires
 unlink-requires g c = record {
   chained = c.requires.chained;
   small = omega (arith, c.requires.fits);
-  bucket = c.requires.old-bucket;
+  bucket = c.requires.old_bucket;
   place = c.requires.place;
   home = c.requires.old_home;
 }
 
-pub key-of-k-requires : goal.key-of-k-requires
-key-of-k-requires g c = omega (arith, c.requires.fits, within_memory c.args.slots.now)
+pub key_of-k-requires : goal.key_of-k-requires
+key_of-k-requires g c = omega (arith, c.requires.fits, within_memory c.args.slots.now)
 
-pub value-of-v-requires : goal.value-of-v-requires
-value-of-v-requires g c = omega (arith, c.requires.fits, within_memory c.args.slots.now)
+pub value_of-v-requires : goal.value_of-v-requires
+value_of-v-requires g c = omega (arith, c.requires.fits, within_memory c.args.slots.now)
 
-pub set-pair-requires : goal.set-pair-requires
-set-pair-requires g c = omega (arith, c.requires.fits, c.requires.place, within_memory c.args.slots.now)
+pub set_pair-requires : goal.set_pair-requires
+set_pair-requires g c = omega (arith, c.requires.fits, c.requires.place, within_memory c.args.slots.now)
 
 pub link-requires : goal.link-requires
 link-requires g c =
     let s = c.args.slots.now in
     let u = c.unlink.new.slots in
-    let t = c.set-pair.new.slots in
+    let t = c.set_pair.new.slots in
     let hashed = g.K.NodeTrait.hashed in
     let same : capacity_of t ≡ capacity_of s = same_capacity s t (omega arith) in
-    let e : g.row.K.Denot × g.row.V.Denot = (c.key-of-k.result, c.value-of-v.result) in
+    let e : g.row.K.Denot × g.row.V.Denot = (c.key_of-k.result, c.value_of-v.result) in
     record {
       chained =
-          moved_off c.args.g (pairs u) (pairs t) e c.set-pair.ensures.pair hashed (capacity_of u) (capacity_of t) c.args.last (headed u) (headed t) (nexts u) (nexts t)
-          (same_capacity u t (omega arith)) c.set-pair.ensures.heads c.set-pair.ensures.next c.unlink.ensures.chained;
+          moved_off c.args.g (pairs u) (pairs t) e c.set_pair.ensures.pair hashed (capacity_of u) (capacity_of t) c.args.last (headed u) (headed t) (nexts u) (nexts t)
+          (same_capacity u t (omega arith)) c.set_pair.ensures.heads c.set_pair.ensures.next c.unlink.ensures.chained;
       small = omega (arith, c.requires.fits);
       bucket = omega (arith, c.requires.bucket);
       place = c.requires.place;
       home =
-          written_home c.args.g (pairs u) (pairs t) e c.set-pair.ensures.pair hashed (capacity_of t) (simp length-map (omega (arith, c.requires.fits, c.requires.place, within_memory s)))
-          ∙ (ap (λ z. home z (hashed c.key-of-k.result)) same
-          ∙ (sym (home_at hashed (capacity_of s) (pairs u) c.args.last c.key-of-k.result (simp length-map (omega (arith, c.requires.fits, within_memory s))) c.key-of-k.ensures)
+          written_home c.args.g (pairs u) (pairs t) e c.set_pair.ensures.pair hashed (capacity_of t) (simp length-map (omega (arith, c.requires.fits, c.requires.place, within_memory s)))
+          ∙ (ap (λ z. home z (hashed c.key_of-k.result)) same
+          ∙ (sym (home_at hashed (capacity_of s) (pairs u) c.args.last c.key_of-k.result (simp length-map (omega (arith, c.requires.fits, within_memory s))) c.key_of-k.ensures)
           ∙ (ap (λ z. at (homes hashed (capacity_of s) z) c.args.last) c.unlink.ensures.pair ∙ c.requires.home)));
     }
 
 pub returns : goal.returns
 returns g c = record {
   chained = c.link.ensures.chained;
-  marks = c.link.ensures.marks ∙ (c.set-pair.ensures.marks ∙ c.unlink.ensures.marks);
+  marks = c.link.ensures.marks ∙ (c.set_pair.ensures.marks ∙ c.unlink.ensures.marks);
   pair = λ d.
       c.link.ensures.pair
-      ∙ (c.set-pair.ensures.pair
-      ∙ (ap (λ z. set z c.args.g (c.key-of-k.result, c.value-of-v.result)) c.unlink.ensures.pair
+      ∙ (c.set_pair.ensures.pair
+      ∙ (ap (λ z. set z c.args.g (c.key_of-k.result, c.value_of-v.result)) c.unlink.ensures.pair
       ∙ ap (λ z. set (pairs c.args.slots.now) c.args.g z)
-      (pair_is _ _ _ (c.key-of-k.ensures d) (c.value-of-v.ensures d)
+      (pair_is _ _ _ (c.key_of-k.ensures d) (c.value_of-v.ensures d)
       ∙ ap (λ z. get_or z c.args.last d) c.unlink.ensures.pair)));
 }

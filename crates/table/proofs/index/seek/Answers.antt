@@ -6,14 +6,14 @@ use Rattle.table.proofs.Capacity.{within_memory, bucket_slot}
 use Rattle.table.proofs.Seeks.{length_entries, home_of_same, tag_of_same, unmarked}
 use Rattle.table.proofs.index.seek.Goals as goal
 
-pub marks-of-requires : goal.marks-of-requires
-marks-of-requires g c = bucket_slot c.args.slots.now c.args.w.home c.requires.bucket
+pub marks_of-requires : goal.marks_of-requires
+marks_of-requires g c = bucket_slot c.args.slots.now c.args.w.home c.requires.bucket
 
-pub overflow-shr-marks-of : goal.overflow-shr-marks-of
-overflow-shr-marks-of g c = omega (arith, ap (λ (z : Vacancy). z.mark) (c.requires.hashed c.args.k.now refl))
+pub overflow_shr-marks_of : goal.overflow_shr-marks_of
+overflow_shr-marks_of g c = omega (arith, ap (λ (z : Vacancy). z.mark) (c.requires.hashed c.args.k.now refl))
 
-pub returns-then-marks-of-w-eq0 : goal.returns-then-marks-of-w-eq0
-returns-then-marks-of-w-eq0 g c i d lt e =
+pub returns-then-marks_of-w-eq0 : goal.returns-then-marks_of-w-eq0
+returns-then-marks_of-w-eq0 g c i d lt e =
     let s = c.args.slots.now in
     let len = c.args.len in
     let fits : len ≤ length s = omega (arith, c.requires.fits, within_memory s) in
@@ -24,7 +24,7 @@ returns-then-marks-of-w-eq0 g c i d lt e =
     let m =
     tag_of_same g.K.Compare.value g.K.NodeTrait.hashed s len c.args.w.mark fits c.args.k.now
     (λ j q. ap (λ (z : Vacancy). z.mark) (c.requires.hashed j q)) i d il e in
-    let z = unmarked (two (marked s)) _ _ _ _ _ b m c.marks-of.ensures c.if-marks-of-w-eq0.true in
+    let z = unmarked (two (marked s)) _ _ _ _ _ b m c.marks_of.ensures c.if-marks_of-w-eq0.true in
     omega (arith, z, c.requires.marks i il)
 
 pub trace-requires : goal.trace-requires

@@ -1,4 +1,4 @@
-use Rattle.std.proofs.Common.{◌≡◌, ℕ, ◌*◌, ◌<◌, sym, refl, ap, ◌∙◌, arith}
+use Rattle.std.proofs.Common.{◌≡◌, ℕ, ◌*◌, ◌<◌, ap, ◌∙◌, arith}
 use Rattle.lists.proofs.Latest.{latest_covers}
 use Rattle.table.specs.Slots.{pairs, headed, marked, nexts, at, two, none}
 use Rattle.table.specs.Index.{bucket_of, capacity_of, tags, bit_of}
@@ -7,16 +7,16 @@ use Rattle.table.proofs.Marks.{marks_tidied}
 use Rattle.table.proofs.Writes.{same_capacity, same_bucket, settled, relinked, reheaded}
 use Rattle.table.proofs.index.tidy.Goals as goal
 
-pub head-of-requires : goal.head-of-requires
-head-of-requires g c = bucket_slot c.args.slots.now c.args.b c.requires.bucket
+pub head_of-requires : goal.head_of-requires
+head_of-requires g c = bucket_slot c.args.slots.now c.args.b c.requires.bucket
 
-pub set-marks-requires : goal.set-marks-requires
-set-marks-requires g c = bucket_slot c.args.slots.now c.args.b c.requires.bucket
+pub set_marks-requires : goal.set_marks-requires
+set_marks-requires g c = bucket_slot c.args.slots.now c.args.b c.requires.bucket
 
-pub returns-then-head-of-eq-NONE : goal.returns-then-head-of-eq-NONE
-returns-then-head-of-eq-NONE g c =
+pub returns-then-head_of-eq-NONE : goal.returns-then-head_of-eq-NONE
+returns-then-head_of-eq-NONE g c =
     let s = c.args.slots.now in
-    let t = c.set-marks.new.slots in
+    let t = c.set_marks.new.slots in
     let n = c.args.n in
     let hashed = g.K.NodeTrait.hashed in
     let h = bucket_of hashed s in
@@ -26,19 +26,19 @@ returns-then-head-of-eq-NONE g c =
       arith,
       (latest_covers none h c.args.b n i lt e).0,
       c.requires.chained.heads c.args.b c.requires.bucket,
-      c.head-of.ensures.value,
-      c.if-head-of-eq-NONE.true,
+      c.head_of.ensures.value,
+      c.if-head_of-eq-NONE.true,
       c.requires.fits,
       within_links s,
     ) in
     record {
       chained =
-          settled hashed (capacity_of s) (capacity_of t) n (pairs s) (pairs t) (two (headed t)) (at (nexts t)) (same_capacity s t (omega arith)) c.set-marks.ensures.pair
-          (relinked (2 * capacity_of s) n h (two (headed t)) (nexts s) (nexts t) c.set-marks.ensures.next
-          (reheaded (2 * capacity_of s) n h (at (nexts s)) (headed s) (headed t) c.set-marks.ensures.heads c.requires.chained));
+          settled hashed (capacity_of s) (capacity_of t) n (pairs s) (pairs t) (two (headed t)) (at (nexts t)) (same_capacity s t (omega arith)) c.set_marks.ensures.pair
+          (relinked (2 * capacity_of s) n h (two (headed t)) (nexts s) (nexts t) c.set_marks.ensures.next
+          (reheaded (2 * capacity_of s) n h (at (nexts s)) (headed s) (headed t) c.set_marks.ensures.heads c.requires.chained));
       marks = λ i lt.
-          ap (λ z. bit_of (two (marked t) z) (at (tags hashed (pairs t)) i)) (same_bucket hashed s t c.set-marks.ensures.pair (omega arith) i)
-          ∙ (ap (λ z. bit_of (two (marked t) (h i)) (at (tags hashed z) i)) c.set-marks.ensures.pair
-          ∙ marks_tidied n c.args.b h (at (tags hashed (pairs s))) (two (marked s)) (two (marked t)) c.requires.marks out c.set-marks.ensures.marks.there i lt);
-      pair = c.set-marks.ensures.pair;
+          ap (λ z. bit_of (two (marked t) z) (at (tags hashed (pairs t)) i)) (same_bucket hashed s t c.set_marks.ensures.pair (omega arith) i)
+          ∙ (ap (λ z. bit_of (two (marked t) (h i)) (at (tags hashed z) i)) c.set_marks.ensures.pair
+          ∙ marks_tidied n c.args.b h (at (tags hashed (pairs s))) (two (marked s)) (two (marked t)) c.requires.marks out c.set_marks.ensures.marks.there i lt);
+      pair = c.set_marks.ensures.pair;
     }

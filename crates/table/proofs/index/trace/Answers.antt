@@ -1,14 +1,14 @@
-use Rattle.std.proofs.Common.{◌≡◌, ℕ, ◌+◌, ◌%◌, ◌<◌, ◌≤◌, length, get_or, take, sym, refl, ap, ◌∙◌, arith}
+use Rattle.std.proofs.Common.{◌≡◌, ◌<◌, ◌≤◌, length, get_or, take, sym, ap, ◌∙◌, arith}
 use Rattle.std.proofs.lemmas.Bool.{both_ways}
 use Rattle.table.specs.Slots.{pairs, none}
-use Rattle.table.specs.Index.{capacity_of, bucket_of}
+use Rattle.table.specs.Index.{capacity_of}
 use Rattle.table.proofs.Capacity.{within_memory, within_links, bucket_slot}
 use Rattle.table.proofs.Seeks.{length_entries, unseen_past, key_of_slot, alike_same, same_alike}
 use Rattle.table.proofs.Walks.{link_place, link_next, link_range, link_falls}
 use Rattle.table.proofs.index.trace.Goals as goal
 
-pub head-of-link-requires : goal.head-of-link-requires
-head-of-link-requires g c = bucket_slot c.args.slots.now c.args.b c.requires.bucket
+pub head_of-link-requires : goal.head_of-link-requires
+head_of-link-requires g c = bucket_slot c.args.slots.now c.args.b c.requires.bucket
 
 pub loop-link-init : goal.loop-link-init
 loop-link-init g c =
@@ -16,12 +16,12 @@ loop-link-init g c =
     let n = length_entries s c.args.len (omega (arith, c.requires.fits, within_memory s)) in (
       c.args.len,
       omega arith,
-      c.head-of-link.ensures.value ∙ c.requires.chained.heads c.args.b c.requires.bucket,
+      c.head_of-link.ensures.value ∙ c.requires.chained.heads c.args.b c.requires.bucket,
       λ i d ge lt e. omega arith,
     )
 
-pub offset-bounds-slots-link : goal.offset-bounds-slots-link
-offset-bounds-slots-link g c =
+pub offset_bounds-slots-link : goal.offset_bounds-slots-link
+offset_bounds-slots-link g c =
     let s = c.args.slots.now in
     let len = c.args.len in
     let small : len ≤ none = omega (arith, c.requires.fits, within_links s) in
@@ -56,8 +56,8 @@ returns-then-same g c =
           ∙ alike_same g.K.Compare.order g.met.K.Compare.ordered _ _ (sym c.same.ensures ∙ c.if-same.true),
     )
 
-pub next-of-link-requires : goal.next-of-link-requires
-next-of-link-requires g c =
+pub next_of-link-requires : goal.next_of-link-requires
+next_of-link-requires g c =
     let s = c.args.slots.now in
     let len = c.args.len in
     let small : len ≤ none = omega (arith, c.requires.fits, within_links s) in
@@ -75,8 +75,8 @@ loop-link-smaller g c =
     link_place none _ len _ _ _ c.requires.chained small c.args.b c.requires.bucket c.loop-link.invariant.0 c.loop-link.link
     c.loop-link.invariant.1 c.loop-link.invariant.2 c.loop-link-test.true in
     let low : c.loop-link.link < len = omega (arith, h.0, c.loop-link.invariant.1) in
-    link_falls c.loop-link.link c.next-of-link.result (omega arith)
-    (link_range none _ _ _ _ (link_next none _ len _ _ _ c.requires.chained small c.args.b c.requires.bucket c.loop-link.link c.next-of-link.result low h.1 c.next-of-link.ensures.value))
+    link_falls c.loop-link.link c.next_of-link.result (omega arith)
+    (link_range none _ _ _ _ (link_next none _ len _ _ _ c.requires.chained small c.args.b c.requires.bucket c.loop-link.link c.next_of-link.result low h.1 c.next_of-link.ensures.value))
 
 pub loop-link-preserved : goal.loop-link-preserved
 loop-link-preserved g c =
@@ -92,7 +92,7 @@ loop-link-preserved g c =
     let n = length_entries s len fits in (
       link,
       omega arith,
-      link_next none _ len _ _ _ c.requires.chained small c.args.b c.requires.bucket link c.next-of-link.result low h.1 c.next-of-link.ensures.value,
+      link_next none _ len _ _ _ c.requires.chained small c.args.b c.requires.bucket link c.next_of-link.result low h.1 c.next_of-link.ensures.value,
       λ i d ge lt e.
           let past =
           unseen_past g.K.Compare.value g.K.NodeTrait.hashed s len (capacity_of s) c.args.b fits c.args.k.now c.requires.hashed

@@ -1,4 +1,4 @@
-use Rattle.std.proofs.Common.{◌≡◌, ℕ, ◌+◌, ◌%◌, ◌<◌, ◌≤◌, take}
+use Rattle.std.proofs.Common.{◌≡◌, ℕ, ◌+◌, ◌%◌, ◌≤◌, take}
 use Rattle.lists.specs.Latest.{latest}
 use Rattle.table.specs.Slots.{pairs, none}
 use Rattle.table.specs.Index.{bucket_of}

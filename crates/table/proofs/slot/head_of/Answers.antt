@@ -1,5 +1,5 @@
 use Rattle.std.proofs.Common.{ℕ, ◌/◌, ◌%◌, sym, ap, ◌∙◌, rules}
-use Rattle.std.proofs.lemmas.List.{get_or_map}
+use Rattle.std.proofs.lemmas.List.{get_or-map}
 use Rattle.table.specs.declared.slot.Twin.{Twin}
 use Rattle.table.specs.Twins.{side_of}
 use Rattle.table.proofs.slot.head_of.Goals as goal
@@ -9,6 +9,6 @@ returns g c = record {
   value =
       c.get.ensures
       ∙ ap (λ (z : Twin ℕ). side_of z (c.args.b % 2))
-      (sym (get_or_map (λ s. s.heads) c.args.slots.now (c.args.b / 2) c.index-slots-b.result (record { even = 0; odd = 0 }) c.requires));
+      (sym (get_or-map (λ s. s.heads) c.args.slots.now (c.args.b / 2) c.index-slots-b.result (record { even = 0; odd = 0 }) c.requires));
   fits = search rules;
 }

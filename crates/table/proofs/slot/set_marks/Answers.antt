@@ -1,5 +1,5 @@
-use Rattle.std.proofs.Common.{ℕ, ◌/◌, ◌%◌, set, sym, refl, ap, ◌∙◌}
-use Rattle.std.proofs.lemmas.List.{map-set, get_or_map, length-map}
+use Rattle.std.proofs.Common.{ℕ, ◌/◌, set, sym, refl, ap, ◌∙◌}
+use Rattle.std.proofs.lemmas.List.{map-set, get_or-map, length-map}
 use Rattle.table.specs.declared.slot.Twin.{Twin}
 use Rattle.table.specs.Slots.{marked}
 use Rattle.table.proofs.Lists.{kept}
@@ -14,7 +14,7 @@ returns g c =
           two_set (marked c.args.slots.now) _ c.args.b c.args.v _
           (map-set (λ s. s.marks) c.args.slots.now i _ ∙ ap (λ (z : Twin ℕ). set (marked c.args.slots.now) i z) c.with.ensures)
           (simp length-map c.requires)
-          (sym (get_or_map (λ s. s.marks) c.args.slots.now i c.index-slots-b.result (record { even = 0; odd = 0 }) c.requires));
+          (sym (get_or-map (λ s. s.marks) c.args.slots.now i c.index-slots-b.result (record { even = 0; odd = 0 }) c.requires));
       heads = kept (λ s. s.heads) c.args.slots.now i _ c.index-slots-b-2.result refl;
       next = kept (λ s. s.next) c.args.slots.now i _ c.index-slots-b-2.result refl;
       pair = kept (λ s. (s.key, s.value)) c.args.slots.now i _ c.index-slots-b-2.result refl;

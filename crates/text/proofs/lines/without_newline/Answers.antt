@@ -3,5 +3,5 @@ use Rattle.std.proofs.Common.{arith, ltb-true}
 use Rattle.std.proofs.lemmas.List.{nil_from_length}
 use Rattle.text.proofs.lines.without_newline.Goals as goal
 
-pub returns-in-default : goal.returns-in-default
-returns-in-default c = rw (nil_from_length c.args.line.now (omega (arith, ltb-true)))
+pub returns-in_default : goal.returns-in_default
+returns-in_default c = rw (nil_from_length c.args.line.now (omega (arith, ltb-true)))

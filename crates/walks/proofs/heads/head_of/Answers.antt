@@ -10,8 +10,8 @@ use Rattle.adjacency.proofs.Entries.{some_of}
 use Rattle.walks.proofs.NodeRows.{hit, absent_place}
 use Rattle.walks.proofs.heads.head_of.Goals as goal
 
-pub value-at-requires : goal.value-at-requires
-value-at-requires g c =
+pub value_at-requires : goal.value_at-requires
+value_at-requires g c =
     let test = hit (keys g.N.Compare.value g.N.Compare.order) (g.N.Compare.value c.args.n.now) in
     let i = c.in-Ok.i in
     record {
@@ -26,7 +26,7 @@ returns-in-Ok g c =
     let test = hit (keys g.N.Compare.value g.N.Compare.order) (g.N.Compare.value c.args.n.now) in
     let at : position test es ≡ Some i = found_place _ _ i c.in-Ok.ensures in
     let d = some_of es i (found_within test es i at) in
-    ap Some (c.value-at.ensures d) ∙ sym (ap (option_map (λ e. e.1)) (found_at test es i d at))
+    ap Some (c.value_at.ensures d) ∙ sym (ap (option_map (λ e. e.1)) (found_at test es i d at))
 
 pub returns-in-Err : goal.returns-in-Err
 returns-in-Err g c =

@@ -11,7 +11,7 @@ returns g c =
     let K = keys g.N.Compare.value g.N.Compare.order in
     let a = c.args in
     let mem = a.cells.now in
-    let from = c.of.ensures ∙ ap walk_of c.row-of.ensures in
+    let from = c.of.ensures ∙ ap walk_of c.row_of.ensures in
     let laws = g.met.N.Compare.ordered in
     record {
       origin = refl;

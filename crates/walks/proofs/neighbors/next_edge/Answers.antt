@@ -10,13 +10,13 @@ returns g c =
     let K = keys g.N.Compare.value g.N.Compare.order in
     let mem = c.args.cells.now in
     let ls = entries c.args.links.now in
-    let x = c.in-ok-c.c in
-    let same = c.next-cell.ensures.origin in
-    let left = c.next-cell.new.w in
+    let x = c.in_ok-c.c in
+    let same = c.next_cell.ensures.origin in
+    let left = c.next_cell.new.w in
     record {
       origin = same;
       next = λ e.
-          let edge = c.edge-at.ensures e ∙ ap (λ o. edge_of e mem ls o x) same in
+          let edge = c.edge_at.ensures e ∙ ap (λ o. edge_of e mem ls o x) same in
           (λ i. (edge i, coming K e mem c.args.kind left))
-          ∙ first_turned (edge_of e mem ls (origin c.args.w.now)) _ _ c.next-cell.result x (c.next-cell.ensures.next e) c.in-ok-c.was;
+          ∙ first_turned (edge_of e mem ls (origin c.args.w.now)) _ _ c.next_cell.result x (c.next_cell.ensures.next e) c.in_ok-c.was;
     }

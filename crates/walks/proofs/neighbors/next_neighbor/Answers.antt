@@ -1,5 +1,5 @@
 use Rattle.std.proofs.Common.{Some, sym, ◌∙◌}
-use Rattle.std.proofs.lemmas.List.{get_or_map}
+use Rattle.std.proofs.lemmas.List.{get_or-map}
 use Rattle.model.specs.Keys.{keys}
 use Rattle.walks.specs.Walks.{coming, key_of}
 use Rattle.walks.proofs.Upcoming.{first_turned}
@@ -9,13 +9,13 @@ pub returns : goal.returns
 returns g c =
     let K = keys g.N.Compare.value g.N.Compare.order in
     let mem = c.args.cells.now in
-    let x = c.in-ok-c.c in
-    let is = c.in-ok-c.was in
-    let left = c.next-cell.new.w in
+    let x = c.in_ok-c.c in
+    let is = c.in_ok-c.was in
+    let left = c.next_cell.new.w in
     record {
-      origin = c.next-cell.ensures.origin;
+      origin = c.next_cell.ensures.origin;
       next = λ e.
-          let key = sym (get_or_map (λ y. y.key) mem x c.index-cells-c.result e (c.next-cell.ensures.within x is)) in
+          let key = sym (get_or-map (λ y. y.key) mem x c.index-cells-c.result e (c.next_cell.ensures.within x is)) in
           (λ i. (Some (key i), coming K e mem c.args.kind left))
-          ∙ first_turned (λ y. Some (key_of e mem y)) _ _ c.next-cell.result x (c.next-cell.ensures.next e) is;
+          ∙ first_turned (λ y. Some (key_of e mem y)) _ _ c.next_cell.result x (c.next_cell.ensures.next e) is;
     }

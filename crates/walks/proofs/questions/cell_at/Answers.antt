@@ -14,8 +14,8 @@ returns g c =
     let n = a.n.now in
     let w = c.of.result in
     record {
-      cell = λ e. c.nth-cell.ensures e ∙ ap (λ z. slice_get (upcoming K e mem a.kind a.d (K.value n) z) a.k) (c.of.ensures ∙ ap walk_of c.row-of.ensures);
+      cell = λ e. c.nth_cell.ensures e ∙ ap (λ z. slice_get (upcoming K e mem a.kind a.d (K.value n) z) a.k) (c.of.ensures ∙ ap walk_of c.row_of.ensures);
       within = λ x is.
           upcoming_within K n mem a.kind a.d (K.value n) w x
-          (count_place (upcoming K n mem a.kind a.d (K.value n) w) a.k x (sym is ∙ c.nth-cell.ensures n));
+          (count_place (upcoming K n mem a.kind a.d (K.value n) w) a.k x (sym is ∙ c.nth_cell.ensures n));
     }

@@ -3,16 +3,16 @@ use Rattle.std.specs.Option.{option_map}
 use Rattle.walks.proofs.NodeLists.{degree_told}
 use Rattle.walks.proofs.questions.degree.Goals as goal
 
-pub returns-in-err-row : goal.returns-in-err-row
-returns-in-err-row g c =
+pub returns-in_err-row : goal.returns-in_err-row
+returns-in_err-row g c =
     let a = c.args in
     c.from-residual.ensures
-    ∙ ap (option_map (λ h. h.len)) (sym c.in-err-row.was ∙ c.head-of.ensures)
+    ∙ ap (option_map (λ h. h.len)) (sym c.in_err-row.was ∙ c.head_of.ensures)
     ∙ degree_told g.met.N.Compare.ordered c.requires.sound a.n
 
 pub returns : goal.returns
 returns g c =
     let a = c.args in
     ap Some c.len.ensures
-    ∙ ap (option_map (λ h. h.len)) (sym c.in-ok-row.was ∙ c.head-of.ensures)
+    ∙ ap (option_map (λ h. h.len)) (sym c.in_ok-row.was ∙ c.head_of.ensures)
     ∙ degree_told g.met.N.Compare.ordered c.requires.sound a.n

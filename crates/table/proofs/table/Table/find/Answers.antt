@@ -1,8 +1,7 @@
-use Rattle.std.proofs.Common.{◌≡◌, ◌<◌, Err, sym, refl, ap, ◌∙◌, arith}
+use Rattle.std.proofs.Common.{◌≡◌, Err, sym, refl, ap, ◌∙◌, arith}
 use Rattle.table.specs.declared.table.Vacancy.{Vacancy}
-use Rattle.table.specs.Index.{home, capacity_of}
+use Rattle.table.specs.Index.{capacity_of}
 use Rattle.table.specs.Tables.{vacancy, found, entries}
-use Rattle.table.proofs.Capacity.{within_links}
 use Rattle.table.proofs.Homes.{home_below}
 use Rattle.table.proofs.Seeks.{absent_position, present_position}
 use Rattle.table.proofs.table.Table.find.Goals as goal
@@ -11,8 +10,8 @@ pub seek-requires : goal.seek-requires
 seek-requires g c =
     let t = c.args.self.now in
     let cap = capacity_of t.slots.now in
-    let w : c.vacancy-of-w.result ≡ vacancy cap c.hash.result =
-    c.vacancy-of-w.ensures ∙ ap (λ z. vacancy z c.hash.result) c.capacity.ensures in
+    let w : c.vacancy_of-w.result ≡ vacancy cap c.hash.result =
+    c.vacancy_of-w.ensures ∙ ap (λ z. vacancy z c.hash.result) c.capacity.ensures in
     record {
       fits = c.requires.sound.fits;
       chained = c.requires.sound.chained;
@@ -33,8 +32,8 @@ pub returns-in-None : goal.returns-in-None
 returns-in-None g c =
     let t = c.args.self.now in
     let cap = capacity_of t.slots.now in
-    let w : c.vacancy-of-w.result ≡ vacancy cap (g.K.NodeTrait.hashed c.args.k.now) =
-    c.vacancy-of-w.ensures
+    let w : c.vacancy_of-w.result ≡ vacancy cap (g.K.NodeTrait.hashed c.args.k.now) =
+    c.vacancy_of-w.ensures
     ∙ (ap (λ z. vacancy z c.hash.result) c.capacity.ensures ∙ ap (vacancy cap) (sym (c.hash.ensures c.args.k.now refl))) in
     ap Err w
     ∙ sym (ap (λ z. found z (vacancy cap (g.K.NodeTrait.hashed c.args.k.now)))

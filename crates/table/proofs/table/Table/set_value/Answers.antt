@@ -1,6 +1,5 @@
-use Rattle.std.proofs.Common.{◌≡◌, ℕ, ◌*◌, ◌<◌, ◌≤◌, List, length, get_or, take, set, Some, None, sym, refl, ap, ◌∙◌, arith}
+use Rattle.std.proofs.Common.{◌≡◌, ◌<◌, ◌≤◌, length, get_or, take, set, Some, sym, refl, ap, ◌∙◌, arith}
 use lib.Seq.{take-set-lt}
-use Rattle.std.proofs.lemmas.List.{length-map}
 use Rattle.std.proofs.lemmas.Option.{slice_get-get_or, slice_get_past}
 use Rattle.table.specs.Slots.{pairs, headed, marked, nexts}
 use Rattle.table.specs.Index.{capacity_of, home, homes, mark, tags}
@@ -23,40 +22,40 @@ returns-then-i-self g c =
       room = refl;
     }
 
-pub key-at-k-requires : goal.key-at-k-requires
-key-at-k-requires g c =
+pub key_at-k-requires : goal.key_at-k-requires
+key_at-k-requires g c =
     let t = c.args.self.now in
     let s = t.slots.now in
     let n = length_entries s t.len (omega (arith, c.requires.sound.fits, within_memory s)) in
     record { sound = c.requires.sound; place = omega arith }
 
-pub value-at-old-requires : goal.value-at-old-requires
-value-at-old-requires g c =
+pub value_at-old-requires : goal.value_at-old-requires
+value_at-old-requires g c =
     let t = c.args.self.now in
     let s = t.slots.now in
     let n = length_entries s t.len (omega (arith, c.requires.sound.fits, within_memory s)) in
     record { sound = c.requires.sound; place = omega arith }
 
-pub set-pair-requires : goal.set-pair-requires
-set-pair-requires g c = omega (arith, c.requires.sound.fits, within_memory c.args.self.now.slots.now)
+pub set_pair-requires : goal.set_pair-requires
+set_pair-requires g c = omega (arith, c.requires.sound.fits, within_memory c.args.self.now.slots.now)
 
 pub returns : goal.returns
 returns g c =
     let t = c.args.self.now in
     let s = t.slots.now in
-    let s' = c.set-pair.new.slots in
+    let s' = c.set_pair.new.slots in
     let i = c.args.i in
-    let k = c.key-at-k.result in
+    let k = c.key_at-k.result in
     let hashed = g.K.NodeTrait.hashed in
     let fits : t.len ≤ length s = omega (arith, c.requires.sound.fits, within_memory s) in
     let n = length_entries s t.len fits in
     let il : i < t.len = omega arith in
-    let old : g.row.K.Denot × g.row.V.Denot = (k, c.value-at-old.result) in
+    let old : g.row.K.Denot × g.row.V.Denot = (k, c.value_at-old.result) in
     let new : g.row.K.Denot × g.row.V.Denot = (k, c.args.v) in
-    let was : old ≡ get_or (entries t) i old = pair_is _ _ _ (c.key-at-k.ensures old) (c.value-at-old.ensures old) in
-    let pair : pairs s' ≡ set (pairs s) i new = c.set-pair.ensures.pair in
+    let was : old ≡ get_or (entries t) i old = pair_is _ _ _ (c.key_at-k.ensures old) (c.value_at-old.ensures old) in
+    let pair : pairs s' ≡ set (pairs s) i new = c.set_pair.ensures.pair in
     let e : take t.len (pairs s') ≡ set (entries t) i new = ap (take t.len) pair ∙ take-set-lt t.len (pairs s) i new il in
-    let key : k ≡ (get_or (pairs s) i old).0 = c.key-at-k.ensures old ∙ ap (λ z. z.0) (entry_at s t.len fits i old il) in
+    let key : k ≡ (get_or (pairs s) i old).0 = c.key_at-k.ensures old ∙ ap (λ z. z.0) (entry_at s t.len fits i old il) in
     let same : length s' ≡ length s = omega arith in
     let cap : capacity_of s' ≡ capacity_of s = same_capacity s s' same in
     let hs : homes hashed (capacity_of s') (pairs s') ≡ homes hashed (capacity_of s) (pairs s) =
@@ -70,14 +69,14 @@ returns g c =
         fits = omega (arith, c.requires.sound.fits);
         chained =
             rechained (capacity_of s) (capacity_of s') t.len (homes hashed (capacity_of s) (pairs s)) (homes hashed (capacity_of s') (pairs s')) (headed s) (headed s') (nexts s) (nexts s')
-            cap hs c.set-pair.ensures.heads c.set-pair.ensures.next c.requires.sound.chained;
+            cap hs c.set_pair.ensures.heads c.set_pair.ensures.next c.requires.sound.chained;
         marks =
             remarked t.len (homes hashed (capacity_of s) (pairs s)) (homes hashed (capacity_of s') (pairs s')) (tags hashed (pairs s)) (tags hashed (pairs s')) (marked s) (marked s')
-            hs ts c.set-pair.ensures.marks c.requires.sound.marks;
-        apart = rw e (apart_set g.K.Compare.value (entries t) i k c.args.v c.key-at-k.ensures c.requires.sound.apart);
+            hs ts c.set_pair.ensures.marks c.requires.sound.marks;
+        apart = rw e (apart_set g.K.Compare.value (entries t) i k c.args.v c.key_at-k.ensures c.requires.sound.apart);
       };
       done =
-          ap (λ z. (Some c.value-at-old.result, z)) e
+          ap (λ z. (Some c.value_at-old.result, z)) e
           ∙ sym (ap (replaced_at (entries t) i c.args.v) (slice_get-get_or (entries t) i old (omega arith) ∙ ap Some (sym was)));
       room = cap;
     }

@@ -1,8 +1,6 @@
-use Rattle.std.proofs.Common.{◌≡◌, ℕ, ◌-◌, ◌<◌, ◌≤◌, List, length, get_or, take, Some, None, sym, refl, ap, ◌∙◌, arith}
+use Rattle.std.proofs.Common.{◌≡◌, ◌-◌, ◌<◌, length, get_or, Some, sym, refl, ap, ◌∙◌, arith}
 use Rattle.std.proofs.lemmas.Option.{slice_get-get_or, slice_get_past}
 use Rattle.lists.specs.Swap.{swap_removed}
-use Rattle.table.specs.declared.table.Taken.{Taken}
-use Rattle.table.specs.Slots.{pairs}
 use Rattle.table.specs.Index.{capacity_of}
 use Rattle.table.specs.Tables.{entries, taken_at}
 use Rattle.table.proofs.Apart.{apart_swap_removed}
@@ -23,15 +21,15 @@ returns-then-i-len g c =
       room = refl;
     }
 
-pub key-at-requires : goal.key-at-requires
-key-at-requires g c =
+pub key_at-requires : goal.key_at-requires
+key_at-requires g c =
     let t = c.args.self.now in
     let s = t.slots.now in
     let n = length_entries s t.len (omega (arith, c.requires.sound.fits, within_memory s)) in
     record { sound = c.requires.sound; place = omega arith }
 
-pub value-at-requires : goal.value-at-requires
-value-at-requires g c =
+pub value_at-requires : goal.value_at-requires
+value_at-requires g c =
     let t = c.args.self.now in
     let s = t.slots.now in
     let n = length_entries s t.len (omega (arith, c.requires.sound.fits, within_memory s)) in
@@ -54,8 +52,8 @@ returns g c =
     let a = c.extract.ensures in
     let n = length_entries s t.len (omega (arith, c.requires.sound.fits, within_memory s)) in
     let il : i < length (entries t) = omega arith in
-    let old : g.row.K.Denot × g.row.V.Denot = (c.key-at.result, c.value-at.result) in
-    let was : old ≡ get_or (entries t) i old = pair_is _ _ _ (c.key-at.ensures old) (c.value-at.ensures old) in
+    let old : g.row.K.Denot × g.row.V.Denot = (c.key_at.result, c.value_at.result) in
+    let was : old ≡ get_or (entries t) i old = pair_is _ _ _ (c.key_at.ensures old) (c.value_at.ensures old) in
     let cap : capacity_of s' ≡ capacity_of s = same_capacity s s' (omega arith) in
     record {
       sound = record {

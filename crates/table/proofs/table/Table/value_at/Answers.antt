@@ -3,8 +3,8 @@ use Rattle.table.proofs.Capacity.{within_memory}
 use Rattle.table.proofs.Seeks.{length_entries, entry_at}
 use Rattle.table.proofs.table.Table.value_at.Goals as goal
 
-pub value-of-requires : goal.value-of-requires
-value-of-requires g c =
+pub value_of-requires : goal.value_of-requires
+value_of-requires g c =
     let t = c.args.self.now in
     let fits : t.len ≤ length t.slots.now = omega (arith, c.requires.sound.fits, within_memory t.slots.now) in
     omega (arith, c.requires.place, length_entries t.slots.now t.len fits)
@@ -15,4 +15,4 @@ returns g c d =
     let s = t.slots.now in
     let fits : t.len ≤ length s = omega (arith, c.requires.sound.fits, within_memory s) in
     let lt : c.args.i < t.len = omega (arith, c.requires.place, length_entries s t.len fits) in
-    c.value-of.ensures d ∙ ap (λ z. z.1) (sym (entry_at s t.len fits c.args.i d lt))
+    c.value_of.ensures d ∙ ap (λ z. z.1) (sym (entry_at s t.len fits c.args.i d lt))
