@@ -9,7 +9,7 @@ ghost use Rattle.model.specs.Calls.{add_new, add_edge};
 ghost use Rattle.adjacency.specs.Parts.{Sound, state_of};
 
 use crate::joins::{join, lacking};
-use crate::rows::Rows;
+use crate::memory::Rows;
 use keys::kinds::Kind;
 use keys::order::{Compare, NodeTrait, same};
 use keys::refusals::Refusal;

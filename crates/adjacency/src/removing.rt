@@ -16,7 +16,7 @@ ghost use Rattle.adjacency.specs.Parts.{Sound, state_of};
 
 use crate::edits::leave;
 use crate::moves::settle;
-use crate::rows::Rows;
+use crate::memory::Rows;
 use keys::kinds::{Direction, Kind};
 use keys::order::{Compare, NodeTrait};
 use rows::cells::{Cell, RowHead};

@@ -109,13 +109,13 @@ module _ {X : Type 0} (xs : List X) (i j : ℕ) (li : i < length xs) (lj : j < l
       let jl : j + 1 < length xs = ⊎_elim (λ e. absurd (inner e)) (λ n. omega arith) (cases_eq (j + 1) (length xs)) in
       (omega arith, swap_removed_other xs i j d jl ne)
 
--- the element of a list after a swap removal, in the list before it
-came_from : {X : Type 0} (xs : List X) (i k : ℕ) (d : X) → i < length xs → k < length (swap_removed xs i) → (q : ℕ) × (q < length xs) × (q ≡ i → ⊥) × (get_or (swap_removed xs i) k d ≡ get_or xs q d)
+-- the element of a list after a swap removal, in the list before it: the last in the gap, and else the same place's
+came_from : {X : Type 0} (xs : List X) (i k : ℕ) (d : X) → i < length xs → k < length (swap_removed xs i) → (q : ℕ) × (q < length xs) × (q ≡ i → ⊥) × (get_or (swap_removed xs i) k d ≡ get_or xs q d) × (((k ≡ i) × (q + 1 ≡ length xs)) ⊎ (k ≡ q))
 came_from xs i k d li lk =
     let m = length_swap_removed xs i in
     ⊎_elim
-    (λ e. (length xs - 1, omega arith, (λ z. omega arith), ap (λ z. get_or (swap_removed xs i) z d) e ∙ swap_removed_at xs i d (omega arith)))
-    (λ ne. (k, omega arith, ne, swap_removed_other xs i k d (omega arith) ne))
+    (λ e. (length xs - 1, omega arith, (λ z. omega arith), ap (λ z. get_or (swap_removed xs i) z d) e ∙ swap_removed_at xs i d (omega arith), inl (e, omega arith)))
+    (λ ne. (k, omega arith, ne, swap_removed_other xs i k d (omega arith) ne, inr refl))
     (cases_eq k i)
 
 -- nodes whose values are apart
@@ -147,11 +147,14 @@ module _ {N V : Type 0} (K : Keys N V) (laws : Laws K.order) (xs : List (N × Li
       other_eq K laws _ _ (λ q.
       let s = seat_of m f.0 e f.1 (sym (ap (λ n. K.value n.0) f.3) ∙ q) in
       let z : Some f.0 ≡ Some j = sym s ∙ at in
-      nk (from_j k f.0 li lj ne w f.2 (cc) lk (λ o. f.3)))) in
+      nk (from_j k f.0 li lj ne w (cc) lk f.4))) in
       ap (λ z. swap_removed z i) (amended_at (is_node K m) h xs j d at)
       ∙ swap_set xs i j li lj ne w (h (get_or xs j d))
       ∙ sym (amended_at (is_node K m) h (swap_removed xs i) (moved_to xs i j li lj ne w) d there ∙ ap (λ n. set (swap_removed xs i) (moved_to xs i j li lj ne w) (h n)) r.1)
     where
-      from_j : (k q : ℕ) (li : i < length xs) (lj : j < length xs) (ne : j ≡ i → ⊥) (w : (j + 1 ≡ length xs) ⊎ (j + 1 ≡ length xs → ⊥)) → (q ≡ i → ⊥) → q ≡ j → k < length (swap_removed xs i)
-          → (Unit {0} → Unit {0}) → k ≡ moved_to xs i j li lj ne w
-      from_j k q li lj ne w a b c e = absurd ?
+      from_j : (k q : ℕ) (li : i < length xs) (lj : j < length xs) (ne : j ≡ i → ⊥) (w : (j + 1 ≡ length xs) ⊎ (j + 1 ≡ length xs → ⊥)) → q ≡ j → k < length (swap_removed xs i)
+          → ((k ≡ i) × (q + 1 ≡ length xs)) ⊎ (k ≡ q) → k ≡ moved_to xs i j li lj ne w
+      from_j k q li lj ne (inl last) e lk (inl gap) = gap.0
+      from_j k q li lj ne (inr inner) e lk (inl gap) = absurd (inner (omega arith))
+      from_j k q li lj ne (inl last) e lk (inr same) = let m = length_swap_removed xs i in absurd (omega arith)
+      from_j k q li lj ne (inr inner) e lk (inr same) = omega arith

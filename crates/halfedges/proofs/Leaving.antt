@@ -49,7 +49,7 @@ module _ {N V E : Type 0} (K : Keys N V) (laws : Laws K.order) (d : N) (k : Kind
   left_noded v m t i c j at lj e held hit =
       let w = value_at K laws d ks ns v i at in
       let one : count c (row_at ns i d) ≤ 1 =
-      let s = Rattle.model.proofs.Tallies.tally-one (λ n. count c n.1) ns i (d, []) w.0 in let o = most c in let z = stands_most K d ks (length ls) c in omega arith in
+      let s = Rattle.model.proofs.Tallies.tally_one (λ n. count c n.1) ns i (d, []) w.0 in let o = most c in let z = stands_most K d ks (length ls) c in omega arith in
       noded_at_row d ns i w.0 (swap_removed (row_at ns i d) j) K ks v (without (hits K k m t)) at
       (told_without d ks (row_at ns i d) j c (hits K k m t) lj e one
       (λ x h. let s = stands_in_row d ns i x w.0 h in let l = stands_below K d ks (length ls) x (let o = most x in omega arith) in omega arith)

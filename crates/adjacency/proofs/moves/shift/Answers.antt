@@ -29,7 +29,7 @@ returns-in_default g c =
     let es = entries c.args.nodes.now in
     let n = c.args.n in
     let s = c.requires.stage in
-    absurd (Rattle.adjacency.proofs.Sought.err-case _ c.in_default.not-Ok (λ w e.
+    absurd (Rattle.adjacency.proofs.Sought.err_case _ c.in_default.not-Ok (λ w e.
     never_absent K laws n (cell_keys mem) mem es (K.value n) c.args.old s.nodes.apart (s.owned n) (omega (arith, c.requires.held)) (c.requires.own n) (found_vacant _ _ w (sym c.find.ensures ∙ e))))
 
 pub rename-requires : goal.rename-requires

@@ -15,6 +15,10 @@ use Rattle.adjacency.proofs.Entries.{some_of}
 use Rattle.adjacency.proofs.Keying.{keyed_as}
 use Rattle.adjacency.proofs.removing.unhook.Goals as goal
 
+-- the parts of what was taken
+parts : {A B : Type 0} (t : Taken A B) (e : A × B) (l p : ℕ) → Some t ≡ Some (record { entry = e; last = l; gap = p }) → (t.entry ≡ e) × (t.last ≡ l) × (t.gap ≡ p)
+parts t e l p h = let s : t ≡ record { entry = e; last = l; gap = p } = cc in (ap (λ z. z.entry) s, ap (λ z. z.last) s, ap (λ z. z.gap) s)
+
 pub returns-in_default : goal.returns-in_default
 returns-in_default g c =
     let ls = entries c.args.links.now in
@@ -32,8 +36,9 @@ settle-requires g c =
     let t = c.in-Some.taken in
     let is : Some t ≡ Some (record { entry = get_or ls p d₀; last = length ls - 1; gap = p }) =
     sym c.in-Some.is ∙ ap (λ z. z.0) (c.swap_remove.ensures.done ∙ ap (taken_at ls p) (slice_get-get_or ls p d₀ c.requires.place)) in
-    let last : t.last ≡ length ls - 1 = cc in
-    let gap : t.gap ≡ p = cc in
+    let told = parts t (get_or ls p d₀) (length ls - 1) p is in
+    let last : t.last ≡ length ls - 1 = told.1 in
+    let gap : t.gap ≡ p = told.2 in
     record {
       stage = c.requires.stage;
       off = λ d. subst (λ z. Off K d (cell_keys mem) z (t.last + 1) (rowed mem (entries c.args.nodes.now))) (sym gap)
@@ -54,9 +59,10 @@ returns g c =
     let t = c.in-Some.taken in
     let done = c.swap_remove.ensures.done ∙ ap (taken_at ls p) (slice_get-get_or ls p d₀ c.requires.place) in
     let is : Some t ≡ Some (record { entry = get_or ls p d₀; last = length ls - 1; gap = p }) = sym c.in-Some.is ∙ ap (λ z. z.0) done in
-    let last : t.last ≡ length ls - 1 = cc in
-    let gap : t.gap ≡ p = cc in
-    let entry : t.entry ≡ get_or ls p d₀ = cc in
+    let told = parts t (get_or ls p d₀) (length ls - 1) p is in
+    let last : t.last ≡ length ls - 1 = told.1 in
+    let gap : t.gap ≡ p = told.2 in
+    let entry : t.entry ≡ get_or ls p d₀ = told.0 in
     let gone : entries c.swap_remove.new.self ≡ swap_removed ls p = ap (λ z. z.1) done in
     let len = ap length gone ∙ length_swap_removed ls p in
     let s = c.settle.ensures in

@@ -5,7 +5,7 @@ use Rattle.rows.proofs.Edits.{append_row, append_kept}
 use Rattle.rows.proofs.row.append.Goals as goal
 
 pub set_next-requires-2 : goal.set_next-requires-2
-set_next-requires-2 g c κs some = omega (arith, last_within c.requires.linked.ring c.requires.small some)
+set_next-requires-2 g c some = omega (arith, last_within c.requires.linked.ring c.requires.small some)
 
 pub returns : goal.returns
 returns g c =

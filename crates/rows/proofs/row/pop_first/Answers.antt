@@ -16,7 +16,7 @@ pub bounds-cells-first-2 : goal.bounds-cells-first-2
 bounds-cells-first-2 g c = first_within c.requires.linked c.requires.small c.requires.some
 
 pub set_prev-requires : goal.set_prev-requires
-set_prev-requires g c κs some =
+set_prev-requires g c some =
     let l = c.requires.linked in
     let q = first_next l c.requires.small c.requires.some c.index-cells-first.result in
     omega (arith, q, nth_within l.ring c.requires.small 1 (λ e. some (q ∙ e)))

@@ -15,7 +15,7 @@ pub bounds-cells-last-2 : goal.bounds-cells-last-2
 bounds-cells-last-2 g c = last_within c.requires.linked c.requires.small c.requires.some
 
 pub set_next-requires : goal.set_next-requires
-set_next-requires g c κs some =
+set_next-requires g c some =
     let l = c.requires.linked in
     let small = c.requires.small in
     let m = c.args.row.now.len - 1 in

@@ -21,20 +21,20 @@ pub bounds-cells-old-4 : goal.bounds-cells-old-4
 bounds-cells-old-4 g c = held_within c.requires.linked c.requires.small c.requires.held
 
 pub set_next-requires : goal.set_next-requires
-set_next-requires g c κs some = c.requires.within
+set_next-requires g c some = c.requires.within
 
 pub set_prev-requires : goal.set_prev-requires
-set_prev-requires g c κs some = omega arith
+set_prev-requires g c some = omega arith
 
 pub set_next-requires-2 : goal.set_next-requires-2
-set_next-requires-2 g c κs some =
+set_next-requires-2 g c some =
     let l = c.requires.linked in
     let held = c.requires.held in
     let p = at_prev l c.requires.small held.0 held.1 held.2 c.index-cells-old.result in
     omega (arith, p, before_within l.ring c.requires.small held.0 (omega arith) (λ e. some (p ∙ e)))
 
 pub set_prev-requires-2 : goal.set_prev-requires-2
-set_prev-requires-2 g c κs some =
+set_prev-requires-2 g c some =
     let l = c.requires.linked in
     let held = c.requires.held in
     let q = at_next l c.requires.small held.0 held.1 held.2 c.index-cells-old-2.result in

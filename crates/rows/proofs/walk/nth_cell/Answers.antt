@@ -16,7 +16,7 @@ loop-preserved g c e =
 pub returns-in_err-advance : goal.returns-in_err-advance
 returns-in_err-advance g c e =
     let left = c.args.k - c.loop.counter in
-    c.from-residual.ensures
+    c.from_residual.ensures
     ∙ nth_none _ _ c.advance.result (c.advance.ensures e) c.in_err-advance.was left
     ∙ c.loop.invariant e
 
