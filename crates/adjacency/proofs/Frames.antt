@@ -1,5 +1,5 @@
 -- One row of many is edited over one memory: the others stay.
-use Rattle.std.proofs.Common.{◌≡◌, ℕ, zero, suc, ◌+◌, ◌<◌, ◌≤◌, eqb, List, [], ◌∷◌, ◌++◌, map, length, get_or, set, sym, refl, ap, ◌∙◌, subst, ⊎_elim, arith}
+use Rattle.std.proofs.Common.{◌≡◌, ℕ, zero, suc, ◌+◌, ◌<◌, ◌≤◌, eqb, List, [], ◌∷◌, length, get_or, set, sym, refl, ap, ◌∙◌, subst, ⊎_elim, arith}
 use lib.Seq.{map-set}
 use Rattle.std.proofs.lemmas.List.{get_or-set_same, get_or-set_other, get_or-map, length-set, same_lists}
 use Rattle.std.proofs.lemmas.Bool.{cases_eq}
@@ -8,10 +8,10 @@ use Rattle.model.proofs.Tallies.{tally_one, tally_two}
 use Rattle.rows.specs.declared.cells.Cell.{Cell}
 use Rattle.rows.specs.declared.cells.RowHead.{RowHead}
 use Rattle.rows.specs.Rings.{none, nth, Apart}
-use Rattle.rows.specs.Links.{bare, listed, Row, Linked, Kept}
+use Rattle.rows.specs.Links.{bare, listed, Linked, Kept}
 use Rattle.rows.proofs.Frames.{other_linked, other_listed}
-use Rattle.halfedges.specs.Cells.{count, standing, row_at, put_row}
-use Rattle.halfedges.proofs.Counts.{bit_same, bit_is, bit_other, count_nth, count_apart}
+use Rattle.halfedges.specs.Cells.{count, standing}
+use Rattle.halfedges.proofs.Counts.{bit_is, bit_other, count_nth, count_apart}
 use Rattle.adjacency.specs.Stages.{rowed, Rings}
 use Rattle.adjacency.proofs.Entries.{rowed_length, row_read}
 

@@ -1,5 +1,5 @@
 -- A cell that stands is in the row of the node that its twin names.
-use Rattle.std.proofs.Common.{◌≡◌, ℕ, ◌<◌, ◌≤◌, List, [], ◌∷◌, length, get_or, Some, None, Option, sym, refl, ap, ◌∙◌, subst, ⊎_elim, arith}
+use Rattle.std.proofs.Common.{◌≡◌, ℕ, ◌<◌, ◌≤◌, List, length, get_or, Some, None, sym, ap, ◌∙◌, subst, ⊎_elim, arith}
 use Rattle.keys.specs.Order.{Laws}
 use Rattle.lists.specs.Positions.{position}
 use Rattle.lists.proofs.Positions.{none_passes}

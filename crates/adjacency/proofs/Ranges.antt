@@ -1,9 +1,9 @@
 -- The cells of a row lie within the memory, and an edit of a row keeps the number of nodes.
-use Rattle.std.proofs.Common.{◌≡◌, ℕ, ◌<◌, ◌≤◌, List, [], ◌∷◌, length, get_or, sym, refl, ap, ◌∙◌, subst, arith}
+use Rattle.std.proofs.Common.{◌≡◌, ℕ, ◌<◌, ◌≤◌, List, [], length, get_or, sym, ap, ◌∙◌, subst, arith}
 use Rattle.std.proofs.lemmas.List.{length-set}
 use Rattle.rows.specs.declared.cells.Cell.{Cell}
 use Rattle.rows.specs.declared.cells.RowHead.{RowHead}
-use Rattle.rows.specs.Rings.{none, nth}
+use Rattle.rows.specs.Rings.{none}
 use Rattle.rows.specs.Links.{listed}
 use Rattle.halfedges.specs.Cells.{count, row_at, put_row}
 use Rattle.halfedges.proofs.Counts.{count_holds}

@@ -1,5 +1,5 @@
 -- A node is sought in the table and, where it is absent, put at its end.
-use Rattle.std.proofs.Common.{◌≡◌, ℕ, suc, ◌+◌, ◌<◌, ◌≤◌, Bool, true, false, cond, not, List, [], ◌∷◌, ◌++◌, map, length, get_or, set, Some, None, Ok, Err, Option, Result, Ordering, sym, refl, ap, ◌∙◌, subst, ⊎_elim, arith}
+use Rattle.std.proofs.Common.{◌≡◌, ℕ, ◌+◌, Bool, not, List, [], ◌∷◌, ◌++◌, length, Some, None, Ok, Err, Option, Ordering, sym, refl, ap, ◌∙◌, subst, ⊎_elim, arith}
 use Rattle.std.proofs.lemmas.List.{get_or_append_left, get_or_push, length_push, map-append}
 use Rattle.std.proofs.lemmas.Bool.{cases_lt, cond-true, cond-false}
 use Rattle.keys.specs.Order.{Laws}
@@ -17,8 +17,7 @@ use Rattle.model.proofs.Tests.{eq_itself, other_eq}
 use Rattle.model.proofs.Positions.{position_map, position_push, found_at, found_none}
 use Rattle.rows.specs.declared.cells.Cell.{Cell}
 use Rattle.rows.specs.declared.cells.RowHead.{RowHead}
-use Rattle.rows.specs.HalfEdges.{told}
-use Rattle.rows.specs.Links.{bare, cell_keys, listed, Linked}
+use Rattle.rows.specs.Links.{bare, cell_keys, Linked}
 use Rattle.rows.proofs.Lists.{bare_linked}
 use Rattle.halfedges.specs.Cells.{standing, noded, Owned}
 use Rattle.halfedges.proofs.Rows.{standing_more, owned_more, noded_more}

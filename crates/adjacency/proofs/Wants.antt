@@ -1,5 +1,5 @@
 -- How many nodes a new link wants, by the searches for its ends.
-use Rattle.std.proofs.Common.{◌≡◌, ℕ, ◌+◌, Bool, cond, List, Result, sym, refl, ap, ◌∙◌}
+use Rattle.std.proofs.Common.{◌≡◌, ℕ, ◌+◌, cond, List, Result, ap, ◌∙◌}
 use Rattle.lists.specs.Positions.{position}
 use Rattle.table.specs.declared.table.Vacancy.{Vacancy}
 use Rattle.table.specs.Tables.{found}

@@ -1,5 +1,5 @@
 -- The keys of a link's cells are written while the cells stand nowhere: every row stays as it is, and is told alike.
-use Rattle.std.proofs.Common.{◌≡◌, ℕ, ◌+◌, ◌*◌, ◌/◌, ◌<◌, ◌≤◌, cond, eqb, List, [], ◌∷◌, map, length, get_or, Ordering, sym, refl, ap, ◌∙◌, subst, arith}
+use Rattle.std.proofs.Common.{◌≡◌, ℕ, ◌/◌, ◌<◌, ◌≤◌, cond, eqb, List, map, length, get_or, Ordering, sym, ap, ◌∙◌, subst, arith}
 use Rattle.std.proofs.lemmas.List.{length-map}
 use Rattle.table.specs.declared.table.Table.{Table}
 use Rattle.table.specs.Tables.{entries}
@@ -8,9 +8,9 @@ use Rattle.rows.specs.declared.cells.Cell.{Cell}
 use Rattle.rows.specs.declared.cells.RowHead.{RowHead}
 use Rattle.rows.specs.Rings.{none, nth, before}
 use Rattle.rows.specs.HalfEdges.{twin}
-use Rattle.rows.specs.Links.{cell_keys, nexts, prevs, walk, listed, Row, Linked}
+use Rattle.rows.specs.Links.{cell_keys, nexts, prevs, walk, listed, Row}
 use Rattle.rows.proofs.Rings.{resized}
-use Rattle.halfedges.specs.Cells.{count, standing, noded, row_at, wrote, named, Owned}
+use Rattle.halfedges.specs.Cells.{standing, noded, wrote, Owned}
 use Rattle.halfedges.proofs.Rows.{stands_in_row}
 use Rattle.halfedges.proofs.Stands.{key_other, length_wrote}
 use Rattle.halfedges.proofs.Told.{noded_agree}

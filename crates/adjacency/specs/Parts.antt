@@ -1,6 +1,6 @@
 -- The three parts of a map: the table of nodes with their row heads, the table of links, and the memory of the rows.
 -- What they stand for, and when they are sound.
-use Rattle.std.specs.Prelude.{◌≡◌, ℕ, ◌*◌, ◌/◌, ◌≤◌, min, List, length}
+use Rattle.std.specs.Prelude.{ℕ, ◌*◌, ◌/◌, ◌≤◌, min, List, length}
 use Rattle.std.specs.declared.cmp.Ordering.{Ordering}
 use Rattle.keys.specs.Hashes.{pair_hash}
 use Rattle.keys.specs.declared.kinds.Kind.{Kind}

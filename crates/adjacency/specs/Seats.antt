@@ -1,5 +1,5 @@
 -- A node's place in the table, or the end where it is absent.
-use Rattle.std.specs.Prelude.{ℕ, ◌+◌, Bool, true, false, cond, List, [], ◌∷◌, ◌++◌, Some, None, Ok, Err, Option, Result}
+use Rattle.std.specs.Prelude.{ℕ, ◌+◌, Bool, cond, List, [], ◌∷◌, ◌++◌, Some, None, Ok, Err, Option, Result}
 use Rattle.lists.specs.Positions.{position}
 use Rattle.table.specs.declared.table.Vacancy.{Vacancy}
 use Rattle.model.specs.Keys.{Keys, eq}

@@ -1,5 +1,5 @@
 -- The nodes of a map and the memory of their rows, and when they fit one another.
-use Rattle.std.specs.Prelude.{◌≡◌, ℕ, ◌<◌, ◌≤◌, List, [], ◌∷◌, map, length, slice_index_or}
+use Rattle.std.specs.Prelude.{ℕ, ◌<◌, ◌≤◌, List, map, length, slice_index_or}
 use Rattle.std.specs.declared.cmp.Ordering.{Ordering}
 use Rattle.table.specs.declared.table.Table.{Table}
 use Rattle.table.specs.Tables.{entries}

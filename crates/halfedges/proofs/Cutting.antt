@@ -1,32 +1,17 @@
 -- The first link of a node's row goes, while the node itself is on its way out of the list.
-use Rattle.std.proofs.Common.{◌≡◌, ℕ, suc, ◌+◌, ◌-◌, ◌*◌, ◌/◌, ◌<◌, ◌≤◌, Bool, true, false, ◌&&◌, eqb, ◌⊎◌, List, [], ◌∷◌, length, get_or, take, set, Some, None, Option, sym, refl, ap, ◌∙◌, subst, inl, inr, ⊎_elim, arith}
-use Rattle.std.proofs.lemmas.List.{get_or-set_same, get_or-set_other, length-set, same_lists, get_or_default, set-set}
-use Rattle.std.proofs.lemmas.Bool.{cases_eq, and_from, both_ways}
+use Rattle.std.proofs.Common.{◌≡◌, ℕ, ◌+◌, ◌-◌, ◌<◌, ◌⊎◌, List, length, get_or, set, Some, None, sym, refl, ap, ◌∙◌, inl, inr, ⊎_elim, arith}
+use Rattle.std.proofs.lemmas.List.{get_or-set_same, get_or-set_other, length-set, same_lists}
+use Rattle.std.proofs.lemmas.Bool.{cases_eq}
 use Rattle.keys.specs.Order.{Laws}
-use Rattle.keys.specs.Kinds.{opposite_of}
 use Rattle.keys.specs.declared.kinds.Direction.{Direction}
-use Rattle.keys.specs.declared.kinds.Kind.{Kind}
 use Rattle.lists.specs.Positions.{position}
 use Rattle.lists.specs.Swap.{swap_removed}
 use Rattle.lists.proofs.Positions.{found_within, position_none}
 use Rattle.lists.proofs.Swap.{length_swap_removed, swap_removed_at, swap_removed_other}
-use Rattle.table.specs.Tables.{Apart}
-use Rattle.rows.specs.Rings.{nth}
-use Rattle.rows.specs.HalfEdges.{side, twin, told}
-use Rattle.model.specs.Keys.{Keys, eq}
-use Rattle.model.specs.Lists.{bit, amended}
-use Rattle.model.specs.Maps.{Node, agree, along, at_row, is_node, is_link, hits, unentered}
-use Rattle.model.proofs.Tests.{by_bool, eq_true, same_eq, other_eq}
-use Rattle.model.proofs.Ends.{values, agree_itself}
-use Rattle.model.proofs.Positions.{passes_at, position_sole, amended_at, amended_none}
-use Rattle.halfedges.specs.Cells.{count, standing, noded, row_at, put_row, named, stands, Owned, Whole, Most, Off, Keyed}
-use Rattle.halfedges.proofs.Counts.{count_swap_removed, count_nth}
-use Rattle.halfedges.proofs.Told.{entry, told_first}
-use Rattle.halfedges.proofs.Rows.{stands_in_row, held_in, length_noded, noded_read, noded_put, position_noded, position_put, read_here, read_other, length_put, standing_put, owned_put}
-use Rattle.halfedges.proofs.Stands.{side_twin, stands_below}
-use Rattle.halfedges.proofs.Links.{own_place}
-use Rattle.halfedges.proofs.Leaving.{value_at, left_standing, left_noded, twin_stands, off_both, off_self}
-use Rattle.halfedges.proofs.Parting.{whole_most}
+use Rattle.model.specs.Keys.{Keys}
+use Rattle.model.specs.Maps.{Node, at_row, is_node}
+use Rattle.model.proofs.Tests.{other_eq}
+use Rattle.model.proofs.Positions.{passes_at, position_sole, amended_at}
 
 -- what stands in the gap does not matter
 pub swap_removed_set : {X : Type 0} (xs : List X) (i : ℕ) (y : X) → i < length xs → swap_removed (set xs i y) i ≡ swap_removed xs i

@@ -1,5 +1,5 @@
 -- A link's cells leave their rows, as the lists tell it.
-use Rattle.std.proofs.Common.{◌≡◌, ℕ, ◌+◌, ◌-◌, ◌*◌, ◌/◌, ◌%◌, ◌<◌, ◌≤◌, Bool, true, false, not, ◌&&◌, eqb, List, [], ◌∷◌, map, length, get_or, set, Some, None, sym, refl, ap, ◌∙◌, subst, ⊎_elim, arith}
+use Rattle.std.proofs.Common.{◌≡◌, ℕ, ◌+◌, ◌*◌, ◌/◌, ◌%◌, ◌<◌, ◌≤◌, true, not, eqb, List, [], length, get_or, Some, sym, ap, ◌∙◌, ⊎_elim, arith}
 use Rattle.std.proofs.lemmas.Bool.{cases_eq, and_parts, and_from}
 use Rattle.keys.specs.Order.{Laws}
 use Rattle.keys.specs.Kinds.{opposite_of}
@@ -10,7 +10,7 @@ use Rattle.lists.specs.Swap.{swap_removed}
 use Rattle.lists.proofs.Positions.{found_within}
 use Rattle.table.specs.Tables.{Apart}
 use Rattle.rows.specs.Rings.{nth}
-use Rattle.rows.specs.HalfEdges.{side, twin, told}
+use Rattle.rows.specs.HalfEdges.{side, twin}
 use Rattle.model.specs.Keys.{Keys, eq}
 use Rattle.model.specs.Lists.{bit, without}
 use Rattle.model.specs.Maps.{agree, is_node, hits, unentered}

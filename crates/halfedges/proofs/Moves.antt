@@ -1,8 +1,7 @@
 -- The last link takes the place of one that has gone: its cells are written anew, and stand where the old ones stood.
-use Rattle.std.proofs.Common.{◌≡◌, ℕ, ◌+◌, ◌-◌, ◌*◌, ◌/◌, ◌%◌, ◌<◌, ◌≤◌, Bool, true, false, cond, not, eqb, List, [], ◌∷◌, length, get_or, set, sym, refl, ap, ◌∙◌, subst, ⊎_elim, arith}
+use Rattle.std.proofs.Common.{◌≡◌, ℕ, ◌+◌, ◌-◌, ◌*◌, ◌/◌, ◌<◌, ◌≤◌, true, false, not, eqb, List, length, get_or, set, sym, ap, ◌∙◌, ⊎_elim, arith}
 use Rattle.std.proofs.lemmas.List.{set-get_or}
-use Rattle.std.proofs.lemmas.Bool.{cases_eq, cases_lt}
-use Rattle.keys.specs.Order.{Laws}
+use Rattle.std.proofs.lemmas.Bool.{cases_eq}
 use Rattle.keys.specs.declared.kinds.Kind.{Kind}
 use Rattle.lists.specs.Swap.{swap_removed}
 use Rattle.lists.proofs.Swap.{length_swap_removed, swap_removed_at, swap_removed_other}
@@ -11,9 +10,9 @@ use Rattle.model.specs.Keys.{Keys, eq}
 use Rattle.model.specs.Lists.{bit}
 use Rattle.model.specs.Maps.{canon}
 use Rattle.model.proofs.Ends.{values}
-use Rattle.halfedges.specs.Cells.{standing, wrote, moved, named, stands, Whole, Off, Keyed}
+use Rattle.halfedges.specs.Cells.{standing, moved, named, stands, Whole, Off, Keyed}
 use Rattle.halfedges.proofs.Counts.{bit_is, bit_other}
-use Rattle.halfedges.proofs.Stands.{stands_out, stands_even, stands_odd, stands_keys, stands_fewer, key_other, key_first, key_second, named_first, named_second, owner_second}
+use Rattle.halfedges.proofs.Stands.{stands_out, stands_even, stands_odd, stands_keys, stands_fewer, key_other, key_first, key_second, named_second, owner_second}
 
 -- the keys of the last link written over its own
 pub moved_itself : {N : Type 0} (ks : List N) (d : N) (l : ℕ) → moved ks d l l ≡ ks

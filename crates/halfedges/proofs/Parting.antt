@@ -1,27 +1,26 @@
 -- The entries of a link from a to b: where they stand, and the rows without them.
-use Rattle.std.proofs.Common.{◌≡◌, ℕ, ◌+◌, ◌*◌, ◌/◌, ◌<◌, ◌≤◌, Bool, true, false, cond, ◌&&◌, eqb, ◌⊎◌, List, [], ◌∷◌, length, get_or, set, Some, None, Option, sym, refl, ap, ◌∙◌, subst, inl, inr, ⊎_elim, arith}
-use Rattle.std.proofs.lemmas.Bool.{cases_eq, cond-true, cond-false, and_parts, both_ways}
+use Rattle.std.proofs.Common.{◌≡◌, ℕ, ◌*◌, ◌/◌, ◌<◌, ◌≤◌, true, List, [], length, get_or, Some, None, Option, sym, refl, ap, ◌∙◌, subst, arith}
+use Rattle.std.proofs.lemmas.Bool.{cond-true, cond-false, and_parts, both_ways}
 use Rattle.keys.specs.Order.{Laws}
 use Rattle.keys.specs.declared.kinds.Direction.{Direction}
 use Rattle.keys.specs.declared.kinds.Direction.TheVariants.{Outgoing, Incoming}
 use Rattle.keys.specs.declared.kinds.Kind.{Kind}
 use Rattle.lists.specs.Positions.{position}
 use Rattle.lists.specs.Swap.{swap_removed}
-use Rattle.lists.proofs.Positions.{none_passes}
 use Rattle.table.specs.Tables.{Apart}
 use Rattle.rows.specs.Rings.{nth}
 use Rattle.rows.specs.HalfEdges.{side, twin}
 use Rattle.model.specs.Keys.{Keys, eq}
-use Rattle.model.specs.Lists.{bit, found}
-use Rattle.model.specs.Maps.{agree, along, canon, is_node, is_link, hits, unentered, parted}
+use Rattle.model.specs.Lists.{found}
+use Rattle.model.specs.Maps.{agree, canon, is_node, is_link, hits, unentered, parted}
 use Rattle.model.proofs.Tests.{eq_true, same_eq, other_eq}
 use Rattle.model.proofs.Ends.{values}
-use Rattle.halfedges.specs.Cells.{count, standing, noded, row_at, put_row, named, stands, twinned, Owned, Whole, Most, Off, Keyed}
+use Rattle.halfedges.specs.Cells.{count, noded, row_at, put_row, named, stands, Owned, Whole, Most, Off, Keyed}
 use Rattle.halfedges.proofs.Counts.{count_swap_removed}
 use Rattle.halfedges.proofs.Told.{entry}
-use Rattle.halfedges.proofs.Rows.{stands_in_row, held_in, length_noded, noded_read, position_noded, position_put, read_other, length_put, owned_put}
+use Rattle.halfedges.proofs.Rows.{stands_in_row, held_in, position_noded, position_put, read_other, length_put, owned_put}
 use Rattle.halfedges.proofs.Stands.{stands_below}
-use Rattle.halfedges.proofs.Links.{found_in, found_not, hit_place, Named, named_outward, named_inward}
+use Rattle.halfedges.proofs.Links.{found_not, hit_place, Named, named_outward, named_inward}
 use Rattle.halfedges.proofs.Leaving.{value_at, left_standing, left_noded, twin_hits, twin_stands, off_both, off_self}
 
 pub whole_most : {N V : Type 0} (K : Keys N V) (d : N) (ks : List N) (n : ℕ) (ns : List (N × List ℕ)) → Whole K d ks n ns → Most K d ks n ns

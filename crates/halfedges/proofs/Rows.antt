@@ -1,5 +1,5 @@
 -- One row of many is put in the place of another.
-use Rattle.std.proofs.Common.{◌≡◌, ℕ, ◌+◌, ◌<◌, ◌≤◌, Bool, List, [], ◌∷◌, ◌++◌, map, length, get_or, set, Some, None, sym, refl, ap, ◌∙◌, subst, ⊎_elim, arith}
+use Rattle.std.proofs.Common.{◌≡◌, ℕ, ◌+◌, ◌<◌, ◌≤◌, Bool, List, [], ◌∷◌, ◌++◌, length, get_or, set, Some, sym, refl, ap, ◌∙◌, subst, ⊎_elim, arith}
 use lib.Seq.{map-set}
 use Rattle.std.proofs.lemmas.List.{get_or-set_same, get_or-set_other, length-set, get_or-map, length-map, get_or_append_left, get_or_push, length_push, map-append}
 use Rattle.std.proofs.lemmas.Bool.{cases_eq, cases_lt}
@@ -8,7 +8,6 @@ use Rattle.lists.specs.Positions.{position}
 use Rattle.rows.specs.HalfEdges.{twin, told}
 use Rattle.table.proofs.Lists.{kept}
 use Rattle.model.specs.Keys.{Keys, eq}
-use Rattle.model.specs.Lists.{tally}
 use Rattle.model.specs.Maps.{is_node, at_row}
 use Rattle.model.proofs.Tallies.{tally_set, tally_one, tally_some, tally_push}
 use Rattle.model.proofs.Positions.{position_map, amended_at}

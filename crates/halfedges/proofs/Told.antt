@@ -1,5 +1,5 @@
 -- The entries of a row, as its cells or their keys change.
-use Rattle.std.proofs.Common.{◌≡◌, ℕ, zero, suc, ◌+◌, ◌<◌, ◌≤◌, Bool, eqb, List, [], ◌∷◌, ◌++◌, map, length, get_or, take, set, Some, None, sym, refl, ap, ◌∙◌, subst, arith}
+use Rattle.std.proofs.Common.{◌≡◌, ℕ, suc, ◌<◌, ◌≤◌, Bool, eqb, List, [], ◌∷◌, ◌++◌, map, length, get_or, take, set, Some, sym, refl, ap, ◌∙◌, arith}
 use lib.Seq.{map-set}
 use Rattle.std.proofs.lemmas.List.{get_or_default, map-append, get_or-map, length-map, take-map, set-get_or}
 use Rattle.std.proofs.lemmas.Bool.{eq-eqb, ne_eqb}
@@ -11,8 +11,8 @@ use Rattle.rows.specs.HalfEdges.{side, told}
 use Rattle.model.specs.Lists.{bit, without}
 use Rattle.model.proofs.Tallies.{tally_one, tally_two}
 use Rattle.model.proofs.Positions.{position_map, position_sole, without_at}
-use Rattle.halfedges.specs.Cells.{count, standing, noded, row_at}
-use Rattle.halfedges.proofs.Counts.{bit_same, bit_is, count_at, count_push}
+use Rattle.halfedges.specs.Cells.{count, standing, noded}
+use Rattle.halfedges.proofs.Counts.{bit_same, bit_is, count_at}
 
 pub map_on : {X Y : Type 0} (f g : X → Y) (xs : List X) → ((i : ℕ) (d : X) → i < length xs → f (get_or xs i d) ≡ g (get_or xs i d)) → map f xs ≡ map g xs
 map_on f g [] h = refl

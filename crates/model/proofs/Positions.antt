@@ -1,10 +1,10 @@
 -- From the position of the first element that passes to the element, its change and its removal.
-use Rattle.std.proofs.Common.{◌≡◌, ℕ, zero, suc, ◌+◌, ◌<◌, Bool, true, false, cond, List, [], ◌∷◌, ◌++◌, map, length, get_or, set, Some, None, Option, sym, refl, ap, ◌∙◌, subst, arith}
-use Rattle.std.proofs.lemmas.Bool.{both_ways, cond-true, cond-false}
+use Rattle.std.proofs.Common.{◌≡◌, ℕ, zero, suc, ◌<◌, Bool, true, false, cond, List, [], ◌∷◌, ◌++◌, map, length, get_or, set, Some, None, Option, sym, refl, ap, ◌∙◌, subst, arith}
+use Rattle.std.proofs.lemmas.Bool.{cond-true, cond-false}
 use Rattle.lists.specs.Positions.{position, one_on}
 use Rattle.lists.specs.Swap.{swap_removed}
-use Rattle.lists.proofs.Positions.{position_at, position_none, none_passes, found_within}
-use Rattle.model.specs.Lists.{found, amended, without, out_at, some}
+use Rattle.lists.proofs.Positions.{position_at, none_passes, found_within}
+use Rattle.model.specs.Lists.{found, amended, without, out_at}
 use Rattle.model.proofs.Tests.{by_bool}
 
 -- of an answer, the element or the edit

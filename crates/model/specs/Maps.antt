@@ -1,5 +1,5 @@
 -- A link map as lists: the nodes, each with its row, and the links, each with its weight.
-use Rattle.std.specs.Prelude.{ℕ, ◌+◌, Bool, true, false, cond, not, ◌&&◌, ◌||◌, List, [], ◌∷◌, ◌++◌, Some, None, Option}
+use Rattle.std.specs.Prelude.{ℕ, ◌+◌, Bool, true, false, cond, not, ◌&&◌, List, [], ◌∷◌, ◌++◌, Some, None, Option}
 use Rattle.keys.specs.declared.kinds.Direction.{Direction}
 use Rattle.keys.specs.declared.kinds.Direction.TheVariants.{Outgoing, Incoming}
 use Rattle.keys.specs.declared.kinds.Kind.{Kind}

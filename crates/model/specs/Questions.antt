@@ -1,5 +1,5 @@
 -- What a map answers to each question. A list is asked for its k-th item, from 0: none from the end on.
-use Rattle.std.specs.Prelude.{ℕ, Bool, true, false, ◌||◌, List, [], ◌∷◌, ◌++◌, map, length, Some, None, Ok, Err, Option, Result}
+use Rattle.std.specs.Prelude.{ℕ, Bool, ◌||◌, List, [], ◌∷◌, ◌++◌, map, length, Some, None, Ok, Err, Option, Result}
 use Rattle.std.specs.List.{slice_get}
 use Rattle.keys.specs.declared.kinds.Direction.{Direction}
 use Rattle.keys.specs.declared.kinds.Direction.TheVariants.{Outgoing, Incoming}

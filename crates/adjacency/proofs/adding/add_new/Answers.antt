@@ -1,19 +1,16 @@
-use Rattle.std.proofs.Common.{◌≡◌, ℕ, ◌+◌, ◌-◌, ◌*◌, ◌/◌, ◌<◌, ◌≤◌, min, true, false, cond, ltb, leb, List, [], ◌∷◌, ◌++◌, length, get_or, set, Some, None, Ok, Err, sym, refl, ap, ◌∙◌, subst, arith}
+use Rattle.std.proofs.Common.{◌≡◌, ◌+◌, ◌/◌, ◌<◌, min, [], ◌∷◌, ◌++◌, length, None, Ok, sym, ap, ◌∙◌, arith}
 use Rattle.std.proofs.lemmas.List.{length-map, length_push}
 use Rattle.std.proofs.lemmas.Bool.{cond-true, cond-false, le-leb, lt-leb, le-ltb, lt-ltb}
 use Rattle.table.specs.Tables.{entries, capacity}
-use Rattle.model.specs.Keys.{keys, eq}
-use Rattle.model.specs.Maps.{edge_key, joined, wanted, holding}
-use Rattle.model.proofs.Tests.{by_bool}
+use Rattle.model.specs.Keys.{keys}
+use Rattle.model.specs.Maps.{edge_key, wanted}
 use Rattle.rows.specs.Links.{cell_keys}
-use Rattle.halfedges.specs.Cells.{noded, Whole, wrote, stands}
+use Rattle.halfedges.specs.Cells.{noded, wrote, stands}
 use Rattle.halfedges.proofs.Rows.{length_noded}
 use Rattle.halfedges.proofs.Stands.{length_wrote}
 use Rattle.adjacency.specs.Stages.{rowed}
-use Rattle.adjacency.specs.Seats.{vacant, lacking_of}
-use Rattle.adjacency.specs.Parts.{state_of}
+use Rattle.adjacency.specs.Seats.{lacking_of}
 use Rattle.adjacency.proofs.Entries.{rowed_length}
-use Rattle.adjacency.proofs.Seating.{vacant_absent}
 use Rattle.adjacency.proofs.Keying.{entries_fit, keyed_more, keyed_as}
 use Rattle.adjacency.proofs.Wants.{lacking_wanted}
 use Rattle.adjacency.proofs.adding.add_new.Goals as goal

@@ -1,17 +1,14 @@
-use Rattle.std.proofs.Common.{◌≡◌, ℕ, ◌+◌, ◌<◌, ◌≤◌, List, [], ◌∷◌, ◌++◌, length, get_or, set, sym, refl, ap, ◌∙◌, subst, arith}
-use Rattle.lists.specs.Swap.{swap_removed}
+use Rattle.std.proofs.Common.{◌≡◌, ◌<◌, ◌∷◌, length, get_or, set, sym, ap, ◌∙◌, subst, arith}
 use Rattle.table.specs.Tables.{entries}
 use Rattle.model.specs.Keys.{keys}
 use Rattle.rows.specs.declared.cells.RowHead.{RowHead}
-use Rattle.rows.specs.Rings.{Apart, Holds, none, nth}
-use Rattle.rows.specs.Links.{bare, listed, Linked, cell_keys}
+use Rattle.rows.specs.Links.{bare, listed, Linked}
 use Rattle.rows.proofs.Lists.{listed_length}
-use Rattle.halfedges.specs.Cells.{count, standing, row_at, put_row, Owned}
-use Rattle.halfedges.proofs.Counts.{count_apart, count_holds}
+use Rattle.halfedges.specs.Cells.{row_at, put_row}
 use Rattle.adjacency.specs.Stages.{Rings, rowed}
 use Rattle.halfedges.proofs.Rows.{read_here}
 use Rattle.adjacency.proofs.Entries.{some_of, row_read, rowed_length, value_put}
-use Rattle.adjacency.proofs.Frames.{fresh_count, off_row, off_more, edited_rings, edited_rows}
+use Rattle.adjacency.proofs.Frames.{off_row, edited_rings, edited_rows}
 use Rattle.adjacency.proofs.Puts.{fewer_alone, fewer_owned, fewer_first}
 use Rattle.adjacency.proofs.edits.behead.Goals as goal
 

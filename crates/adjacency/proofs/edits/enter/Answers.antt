@@ -1,10 +1,10 @@
-use Rattle.std.proofs.Common.{◌≡◌, ℕ, ◌+◌, ◌<◌, ◌≤◌, List, [], ◌∷◌, ◌++◌, length, get_or, set, sym, refl, ap, ◌∙◌, subst, arith}
+use Rattle.std.proofs.Common.{◌≡◌, ◌<◌, [], ◌∷◌, ◌++◌, length, get_or, set, sym, ap, ◌∙◌, subst, arith}
 use Rattle.table.specs.Tables.{entries}
 use Rattle.model.specs.Keys.{keys}
 use Rattle.rows.specs.declared.cells.RowHead.{RowHead}
 use Rattle.rows.specs.Rings.{Apart, none}
-use Rattle.rows.specs.Links.{bare, listed, Linked, cell_keys}
-use Rattle.halfedges.specs.Cells.{count, standing, row_at, put_row, Owned}
+use Rattle.rows.specs.Links.{bare, listed, Linked}
+use Rattle.halfedges.specs.Cells.{row_at, put_row}
 use Rattle.halfedges.proofs.Counts.{count_apart}
 use Rattle.adjacency.specs.Stages.{Rings, rowed}
 use Rattle.adjacency.proofs.Entries.{some_of, row_read, value_put}

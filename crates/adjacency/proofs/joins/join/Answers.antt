@@ -1,15 +1,15 @@
-use Rattle.std.proofs.Common.{◌≡◌, ℕ, ◌+◌, ◌*◌, ◌/◌, ◌<◌, ◌≤◌, Bool, true, false, cond, eqb, List, [], ◌∷◌, ◌++◌, length, get_or, sym, refl, ap, ◌∙◌, subst, arith}
+use Rattle.std.proofs.Common.{◌≡◌, ℕ, ◌+◌, ◌*◌, ◌/◌, ◌<◌, ◌≤◌, true, false, cond, eqb, length, get_or, sym, refl, ap, ◌∙◌, arith}
 use Rattle.std.proofs.lemmas.List.{length-map}
 use Rattle.keys.specs.declared.kinds.Direction.{Direction}
 use Rattle.keys.specs.declared.kinds.Direction.TheVariants.{Outgoing, Incoming}
-use Rattle.table.specs.Tables.{entries, capacity}
+use Rattle.table.specs.Tables.{entries}
 use Rattle.model.specs.Keys.{keys, eq}
 use Rattle.model.specs.Lists.{bit}
 use Rattle.model.specs.Maps.{entered}
 use Rattle.model.proofs.Tests.{by_bool, same_eq}
 use Rattle.rows.specs.HalfEdges.{side, twin}
 use Rattle.rows.specs.Links.{cell_keys}
-use Rattle.halfedges.specs.Cells.{standing, noded, named, stands, wrote}
+use Rattle.halfedges.specs.Cells.{standing, noded, named, stands}
 use Rattle.halfedges.proofs.Counts.{bit_other}
 use Rattle.halfedges.proofs.Stands.{side_even, side_odd, stands_out, stands_below, stands_more, key_first, key_second, owner_first, owner_second}
 use Rattle.adjacency.specs.Stages.{rowed}

@@ -1,17 +1,16 @@
-use Rattle.std.proofs.Common.{◌≡◌, ℕ, ◌+◌, ◌<◌, ◌≤◌, eqb, List, [], ◌∷◌, ◌++◌, length, get_or, sym, refl, ap, ◌∙◌, subst, arith}
+use Rattle.std.proofs.Common.{◌≡◌, ◌<◌, [], ◌∷◌, ◌++◌, length, get_or, sym, ap, ◌∙◌, arith}
 use Rattle.std.proofs.lemmas.List.{length-map}
 use Rattle.lists.specs.Positions.{position}
 use Rattle.lists.proofs.Positions.{found_within}
 use Rattle.table.specs.Tables.{entries, capacity, found, vacancy}
 use Rattle.model.specs.Keys.{keys, eq}
-use Rattle.model.specs.Lists.{bit}
 use Rattle.model.specs.Maps.{at_row}
 use Rattle.model.proofs.Tests.{eq_true}
 use Rattle.model.proofs.Positions.{passes_at, position_map}
 use Rattle.rows.specs.declared.cells.RowHead.{RowHead}
 use Rattle.rows.specs.HalfEdges.{side}
 use Rattle.rows.specs.Links.{bare, cell_keys}
-use Rattle.halfedges.specs.Cells.{standing, noded, row_at, put_row}
+use Rattle.halfedges.specs.Cells.{standing, noded, row_at}
 use Rattle.halfedges.proofs.Rows.{length_put, noded_at_row, position_put}
 use Rattle.halfedges.proofs.Told.{told_push}
 use Rattle.adjacency.specs.Stages.{rowed}

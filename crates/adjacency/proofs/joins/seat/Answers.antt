@@ -1,7 +1,7 @@
-use Rattle.std.proofs.Common.{◌≡◌, ℕ, ◌<◌, ◌≤◌, List, [], ◌∷◌, ◌++◌, length, None, sym, refl, ap, ◌∙◌, arith}
+use Rattle.std.proofs.Common.{◌≡◌, ◌<◌, [], ◌∷◌, ◌++◌, length, None, sym, ap, ◌∙◌, arith}
 use Rattle.std.proofs.lemmas.Bool.{cond-true, lt-ltb}
 use Rattle.lists.specs.Positions.{position}
-use Rattle.table.specs.Tables.{entries, capacity, appended}
+use Rattle.table.specs.Tables.{entries, capacity}
 use Rattle.model.specs.Keys.{keys, eq}
 use Rattle.adjacency.specs.Seats.{vacant, seat_by, seated_in}
 use Rattle.adjacency.proofs.Seating.{found_vacant, seated_place}

@@ -1,13 +1,12 @@
-use Rattle.std.proofs.Common.{◌≡◌, ℕ, ◌+◌, ◌*◌, ◌/◌, ◌<◌, ◌≤◌, true, false, not, eqb, List, [], ◌∷◌, length, get_or, sym, refl, ap, ◌∙◌, subst, arith}
+use Rattle.std.proofs.Common.{◌≡◌, ℕ, ◌+◌, ◌*◌, ◌/◌, ◌<◌, ◌≤◌, true, false, length, get_or, sym, refl, ap, ◌∙◌, arith}
 use Rattle.std.proofs.lemmas.List.{length-map}
 use Rattle.table.specs.Tables.{entries}
 use Rattle.model.specs.Keys.{keys, eq}
-use Rattle.model.specs.Lists.{bit}
-use Rattle.rows.specs.HalfEdges.{side, twin}
+use Rattle.rows.specs.HalfEdges.{twin}
 use Rattle.rows.specs.Links.{cell_keys}
 use Rattle.halfedges.specs.Cells.{standing, named, noded, stands, wrote, moved}
 use Rattle.halfedges.proofs.Counts.{bit_other}
-use Rattle.halfedges.proofs.Stands.{side_even, side_odd, stands_below, stands_even, stands_odd, key_first, key_second, key_other, length_wrote, owner_first, owner_second}
+use Rattle.halfedges.proofs.Stands.{side_even, side_odd, key_first, key_second, key_other, owner_first, owner_second}
 use Rattle.halfedges.proofs.Moves.{moved_itself, whole_last, whole_self, whole_both}
 use Rattle.adjacency.specs.Stages.{rowed}
 use Rattle.adjacency.proofs.Writes.{standing_still, stage_still, noded_still}

@@ -1,4 +1,4 @@
-use Rattle.std.proofs.Common.{◌≡◌, ℕ, ◌+◌, ◌<◌, ◌≤◌, List, [], ◌∷◌, length, get_or, set, Some, sym, refl, ap, ◌∙◌, subst, arith}
+use Rattle.std.proofs.Common.{◌≡◌, ◌<◌, [], length, get_or, set, Some, sym, ap, ◌∙◌, arith}
 use Rattle.std.proofs.lemmas.List.{length-map, set-get_or}
 use Rattle.lists.specs.Positions.{position}
 use Rattle.lists.proofs.Positions.{found_within}
@@ -8,9 +8,8 @@ use Rattle.model.proofs.Tests.{eq_true}
 use Rattle.model.proofs.Positions.{passes_at}
 use Rattle.rows.specs.declared.cells.RowHead.{RowHead}
 use Rattle.rows.specs.Rings.{Holds}
-use Rattle.rows.specs.HalfEdges.{side, told}
 use Rattle.rows.specs.Links.{bare, cell_keys}
-use Rattle.halfedges.specs.Cells.{count, standing, noded, row_at, put_row}
+use Rattle.halfedges.specs.Cells.{noded, row_at}
 use Rattle.halfedges.proofs.Counts.{count_holds}
 use Rattle.halfedges.proofs.Rows.{noded_put, noded_read}
 use Rattle.halfedges.proofs.Told.{told_set}

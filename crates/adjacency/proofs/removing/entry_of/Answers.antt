@@ -1,15 +1,10 @@
-use Rattle.std.proofs.Common.{◌≡◌, ℕ, ◌<◌, ◌≤◌, ◌⊎◌, List, [], ◌∷◌, length, get_or, Some, None, sym, refl, ap, ◌∙◌, subst, inl, inr, arith}
-use Rattle.keys.specs.declared.kinds.Direction.TheVariants.{Outgoing, Incoming}
+use Rattle.std.proofs.Common.{◌≤◌, Some, sym, ap, ◌∙◌, subst, inl, inr}
 use Rattle.table.specs.Tables.{entries}
-use Rattle.model.specs.Keys.{keys}
 use Rattle.model.specs.Lists.{found}
-use Rattle.model.specs.Maps.{hits}
 use Rattle.rows.specs.declared.cells.RowHead.{RowHead}
-use Rattle.rows.specs.HalfEdges.{side}
-use Rattle.rows.specs.Links.{bare, listed, Linked, cell_keys}
-use Rattle.halfedges.specs.Cells.{count, row_at, twinned}
+use Rattle.rows.specs.Links.{bare, listed, Linked}
+use Rattle.halfedges.specs.Cells.{count, twinned}
 use Rattle.halfedges.proofs.Links.{found_in}
-use Rattle.adjacency.specs.Stages.{rowed}
 use Rattle.adjacency.proofs.Entries.{some_of, row_read}
 use Rattle.adjacency.proofs.Ranges.{cell_within}
 use Rattle.adjacency.proofs.removing.entry_of.Goals as goal

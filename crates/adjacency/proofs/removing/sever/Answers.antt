@@ -1,14 +1,12 @@
-use Rattle.std.proofs.Common.{◌≡◌, ℕ, ◌<◌, ◌≤◌, List, [], ◌∷◌, length, get_or, sym, refl, ap, ◌∙◌, subst, arith}
-use Rattle.std.proofs.lemmas.List.{length-map, get_or_default}
+use Rattle.std.proofs.Common.{◌≡◌, ◌<◌, ◌≤◌, length, sym, ap, ◌∙◌, subst, arith}
 use Rattle.lists.specs.Swap.{swap_removed}
 use Rattle.table.specs.Tables.{entries}
 use Rattle.rows.specs.HalfEdges.{twin}
-use Rattle.rows.specs.Rings.{nth, Holds}
+use Rattle.rows.specs.Rings.{nth}
 use Rattle.halfedges.specs.Cells.{count, row_at, put_row}
 use Rattle.halfedges.proofs.Counts.{count_holds}
 use Rattle.halfedges.proofs.Rows.{read_other}
 use Rattle.adjacency.specs.Stages.{rowed}
-use Rattle.adjacency.specs.Looks.{PartedTwice}
 use Rattle.adjacency.proofs.Entries.{some_of, rowed_length}
 use Rattle.adjacency.proofs.Ranges.{cell_within, length_rowed_put}
 use Rattle.adjacency.proofs.removing.sever.Goals as goal

@@ -1,10 +1,10 @@
-use Rattle.std.proofs.Common.{◌≡◌, ℕ, ◌+◌, ◌-◌, ◌*◌, ◌<◌, ◌≤◌, List, [], ◌∷◌, length, get_or, Some, None, sym, refl, ap, ◌∙◌, subst, arith}
+use Rattle.std.proofs.Common.{◌≡◌, ℕ, ◌+◌, ◌-◌, ◌*◌, length, get_or, Some, sym, ap, ◌∙◌, subst, arith}
 use Rattle.std.proofs.lemmas.List.{length-map, get_or_default}
 use Rattle.std.proofs.lemmas.Option.{slice_get-get_or}
 use Rattle.lists.specs.Swap.{swap_removed}
 use Rattle.lists.proofs.Swap.{length_swap_removed}
 use Rattle.table.specs.declared.table.Taken.{Taken}
-use Rattle.table.specs.Tables.{entries, taken, taken_at}
+use Rattle.table.specs.Tables.{entries, taken_at}
 use Rattle.model.specs.Keys.{keys}
 use Rattle.rows.specs.Links.{cell_keys}
 use Rattle.halfedges.specs.Cells.{Off, moved, stands}

@@ -6,7 +6,7 @@ use Rattle.walks.proofs.questions.degree.Goals as goal
 pub returns-in_err-row : goal.returns-in_err-row
 returns-in_err-row g c =
     let a = c.args in
-    c.from-residual.ensures
+    c.from_residual.ensures
     ∙ ap (option_map (λ h. h.len)) (sym c.in_err-row.was ∙ c.head_of.ensures)
     ∙ degree_told g.met.N.Compare.ordered c.requires.sound a.n
 

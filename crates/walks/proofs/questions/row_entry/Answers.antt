@@ -6,7 +6,7 @@ use Rattle.walks.proofs.questions.row_entry.Goals as goal
 pub returns-in_err-c : goal.returns-in_err-c
 returns-in_err-c g c =
     let a = c.args in
-    c.from-residual.ensures
+    c.from_residual.ensures
     ∙ entry_told g.met.N.Compare.ordered c.requires.sound a.n a.n a.k None (sym c.in_err-c.was ∙ c.cell_at.ensures.cell a.n)
 
 pub returns : goal.returns
