@@ -1,4 +1,4 @@
-//! A line of text read as a command, by docs/LINKMAP.md.
+//! A line of text read as a command, by COMMANDS.md.
 
 use std::fmt;
 

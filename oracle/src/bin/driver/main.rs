@@ -1,4 +1,4 @@
-//! `driver [accounts|seats]`: the commands of docs/LINKMAP.md carried out by petgraph's own code.
+//! `driver [accounts|seats]`: the commands of COMMANDS.md carried out by petgraph's own code.
 
 mod checks;
 mod commands;
