@@ -10,3 +10,4 @@ pub mod Keying
 pub mod Wants
 pub mod Ranges
 pub mod Looking
+pub mod Removals

@@ -42,7 +42,7 @@ untwinned_none None e = refl
 untwinned_none (Some t) e = let z : ◌≡◌ {A = ℕ} 0 1 = cc in absurd (omega arith)
 
 module _ {N V E : Type 0} (K : Keys N V) (laws : Laws K.order) (d : N) (k : Kind) (ks : List N) (ls : List ((N × N) × E))
-    (keyed : Keyed K d k ks ls) (apart : Apart (values K) ls) (mem : List (Cell N)) (es : List (N × RowHead)) (nodes-apart : Apart K.value es)
+    (keyed : Keyed K d k ks ls) (apart : Apart (values K) ls) (mem : List (Cell N)) (es : List (N × RowHead)) (nodes_apart : Apart K.value es)
     (owned : Owned K d ks (rowed mem es)) (whole : Whole K d ks (length ls) (rowed mem es))
     (a b : V) (i j : ℕ) (ati : position (is_node K a) (noded ks (rowed mem es)) ≡ Some i) (atj : position (is_node K b) (noded ks (rowed mem es)) ≡ Some j) where
   apart_ends : (i ≡ j → ⊥) → a ≡ b → ⊥
@@ -53,9 +53,9 @@ module _ {N V E : Type 0} (K : Keys N V) (laws : Laws K.order) (d : N) (k : Kind
   -- where nothing is found there is no link
   pub looked_none : (r : Option ℕ) → Looked K d k ks (rowed mem es) i j a b r → r ≡ None → position (is_link K (canon K k a b)) ls ≡ None
   looked_none r (inl h) e =
-      unnamed_outward K laws d k ks ls keyed apart (rowed mem es) owned whole (seat_of K laws d ks mem es nodes-apart) a b i ati (sym h ∙ e)
+      unnamed_outward K laws d k ks ls keyed apart (rowed mem es) owned whole (seat_of K laws d ks mem es nodes_apart) a b i ati (sym h ∙ e)
   looked_none r (inr (ne, h)) e =
-      unnamed_inward K laws d k ks ls keyed apart (rowed mem es) owned whole (seat_of K laws d ks mem es nodes-apart) b a j (λ q. apart_ends ne (sym q)) atj (untwinned_none _ (sym h ∙ e))
+      unnamed_inward K laws d k ks ls keyed apart (rowed mem es) owned whole (seat_of K laws d ks mem es nodes_apart) b a j (λ q. apart_ends ne (sym q)) atj (untwinned_none _ (sym h ∙ e))
 
   -- what is found is the cell of a's row that names b
   pub looked_some : (r : Option ℕ) (c : ℕ) → Looked K d k ks (rowed mem es) i j a b r → r ≡ Some c → (1 ≤ count c (row_at (rowed mem es) i d)) × (hits K k b Outgoing (entry d ks c) ≡ true)
@@ -63,5 +63,5 @@ module _ {N V E : Type 0} (K : Keys N V) (laws : Laws K.order) (d : N) (k : Kind
   looked_some r c (inr (ne, h)) e =
       let u = untwinned (found (λ x. hits K k a Incoming (entry d ks x)) (row_at (rowed mem es) j d)) c (sym h ∙ e) in
       let f = found_in (λ x. hits K k a Incoming (entry d ks x)) (row_at (rowed mem es) j d) u.0 u.1 in
-      let t = turned_in K laws d k ks ls keyed apart (rowed mem es) owned whole (seat_of K laws d ks mem es nodes-apart) a b i j u.0 (apart_ends ne) ati atj f.0 f.1 in
+      let t = turned_in K laws d k ks ls keyed apart (rowed mem es) owned whole (seat_of K laws d ks mem es nodes_apart) a b i j u.0 (apart_ends ne) ati atj f.0 f.1 in
       subst (λ z. (1 ≤ count z (row_at (rowed mem es) i d)) × (hits K k b Outgoing (entry d ks z) ≡ true)) (sym u.2) t

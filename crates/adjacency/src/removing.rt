@@ -112,3 +112,29 @@ fn sever<N: NodeTrait>(
     }
     leave(nodes, cells, j, twin_of(c));
 }
+
+/// Takes out the link from `a` to `b` and answers its weight.
+pub fn remove_edge<N: NodeTrait, E: Copy>(
+    kind: Kind,
+    nodes: &mut Table<'_, N, RowHead>,
+    links: &mut Table<'_, (N, N), E>,
+    rows: &mut Rows<'_, N>,
+    a: N,
+    b: N,
+) -> Option<E>
+    requires sound { Sound N.Compare.value N.Compare.order N.NodeTrait.hashed kind nodes.old links.old rows.old.cells.now }
+    ensures sound { Sound N.Compare.value N.Compare.order N.NodeTrait.hashed kind nodes.new links.new rows.new.cells.now }
+    ensures done { (result, state_of kind nodes.new links.new rows.new.cells.now) ≡ remove_edge (keys N.Compare.value N.Compare.order) a b (state_of kind nodes.old links.old rows.old.cells.now) }
+{
+    let Ok(i) = nodes.find(&a) else {
+        return None;
+    };
+    let Ok(j) = nodes.find(&b) else {
+        return None;
+    };
+    let Some(c) = entry_of(kind, nodes, rows, i, j, &a, &b) else {
+        return None;
+    };
+    sever(nodes, rows.cells, i, j, c);
+    unhook(kind, nodes, links, rows, (c / 2) as usize)
+}

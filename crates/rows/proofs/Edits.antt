@@ -99,15 +99,15 @@ module _ {K : Type 0} {mem m₁ m₂ m₃ mem' : List (Cell K)} {h h₁ h₂ h�
     (s3 : NextSet m₂ h₂ m₃ h₃ p new) (s4 : PrevSet m₃ h₃ mem' h' q new) where
   pub replace_row : (i : ℕ) → i < length xs → nth xs i ≡ old → Row mem' h' (set xs i new)
   replace_row i li is =
-      let before-new = prev i li is in
-      let after-new = next i li is in
-      let off-prev = before_apart row.ring small new within fresh i (omega arith) in
+      let before_new = prev i li is in
+      let after_new = next i li is in
+      let off_prev = before_apart row.ring small new within fresh i (omega arith) in
       let off_next = nth_apart row.ring small new within fresh (suc i) in
       record {
         long = omega (arith, length-set xs i new, row.long, s1.len, s2.len, s3.len, s4.len);
-        ring = resized same (replaced i row.ring small within fresh li before-new after-new (record {
-          new_next = s4.nexts new ∙ s3.there new (λ e. off-prev (sym (e ∙ before-new))) ∙ s2.nexts new ∙ s1.here;
-          new_prev = s4.there new (λ e. off_next (sym (e ∙ after-new))) ∙ s3.prevs new ∙ s2.here;
+        ring = resized same (replaced i row.ring small within fresh li before_new after_new (record {
+          new_next = s4.nexts new ∙ s3.there new (λ e. off_prev (sym (e ∙ before_new))) ∙ s2.nexts new ∙ s1.here;
+          new_prev = s4.there new (λ e. off_next (sym (e ∙ after_new))) ∙ s3.prevs new ∙ s2.here;
           to_new = s4.nexts p ∙ s3.here;
           back_new = s4.here;
           old_next = λ x nn np. s4.nexts x ∙ s3.there x np ∙ s2.nexts x ∙ s1.there x nn;
@@ -118,12 +118,12 @@ module _ {K : Type 0} {mem m₁ m₂ m₃ mem' : List (Cell K)} {h h₁ h₂ h�
   pub replace_kept : Holds old xs → Kept mem mem' (new ∷ xs)
   replace_kept held =
       let i = held.0 in
-      let p-is = prev i held.1 held.2 in
-      let q-is = next i held.1 held.2 in
+      let p_is = prev i held.1 held.2 in
+      let q_is = next i held.1 held.2 in
       record {
         others = λ x d l a.
-            s4.others x d (λ e. nth_apart row.ring small x l (apart_rest xs a) (suc i) (sym (e ∙ q-is)))
-            ∙ s3.others x d (λ e. before_apart row.ring small x l (apart_rest xs a) i (omega arith) (sym (e ∙ p-is)))
+            s4.others x d (λ e. nth_apart row.ring small x l (apart_rest xs a) (suc i) (sym (e ∙ q_is)))
+            ∙ s3.others x d (λ e. before_apart row.ring small x l (apart_rest xs a) i (omega arith) (sym (e ∙ p_is)))
             ∙ s2.others x d (apart_here xs a)
             ∙ s1.others x d (apart_here xs a);
         keys = s4.keys ∙ s3.keys ∙ s2.keys ∙ s1.keys;

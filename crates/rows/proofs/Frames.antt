@@ -60,19 +60,19 @@ module _ {K : Type 0} (mem mem' : List (Cell K)) (h : RowHead) (ys : List ℕ) (
   other_listed = listed_is still (omega arith)
 
 -- a memory whose links are as they were: keys may have been written
-module _ {K : Type 0} (mem mem' : List (Cell K)) (h : RowHead) (nexts-same : nexts mem' ≡ nexts mem)
-    (prevs-same : prevs mem' ≡ prevs mem) where
+module _ {K : Type 0} (mem mem' : List (Cell K)) (h : RowHead) (nexts_same : nexts mem' ≡ nexts mem)
+    (prevs_same : prevs mem' ≡ prevs mem) where
   pub rekeyed_listed : listed mem' h ≡ listed mem h
-  rekeyed_listed = ap (λ ns. walk (λ x. get_or ns x 0) h.first h.len) nexts-same
+  rekeyed_listed = ap (λ ns. walk (λ x. get_or ns x 0) h.first h.len) nexts_same
 
   pub rekeyed_linked : Linked mem h → Linked mem' h
   rekeyed_linked linked = record {
     long = sym (listed_length mem' h);
-    ring = resized long (moved (sym nexts-same) (sym prevs-same) linked.ring);
+    ring = resized long (moved (sym nexts_same) (sym prevs_same) linked.ring);
   }
     where
       long : length mem ≡ length mem'
-      long = sym (length-map mem (λ c. c.next)) ∙ ap length (sym nexts-same) ∙ length-map mem' (λ c. c.next)
+      long = sym (length-map mem (λ c. c.next)) ∙ ap length (sym nexts_same) ∙ length-map mem' (λ c. c.next)
 
       Moved : List ℕ → List ℕ → Type 0
       Moved ns ps =

@@ -38,11 +38,11 @@ module _ {K : Type 0} {mem : List (Cell K)} {h : RowHead} {xs : List ℕ} (row :
       let lk : k < m = omega (arith, length-set ys i t, left_long) in
       elim (cases_eq k i) [
         | inl q ↦
-            let last-place : m ≡ length xs - 1 = omega arith in
+            let last_place : m ≡ length xs - 1 = omega arith in
             ap (nth (set ys i t)) q
             ∙ (get_or-set_same ys i t none (omega (arith, left_long))
             ∙ (last
-            ∙ (ap (nth xs) last-place
+            ∙ (ap (nth xs) last_place
             ∙ (sym (swap_removed_at xs i none (omega arith)) ∙ ap (nth (swap_removed xs i)) (sym q)))))
         | inr ne ↦
             get_or-set_other ys i k t none ne

@@ -82,7 +82,7 @@ pub marked_moved : {K V : Type 0} (hashed : K → ℕ) (xs ys : List (Slot K V))
 marked_moved {K} {V} hashed xs ys n g M gn nl ep em el i lt =
     let cap = capacity_of xs in
     let in_g : g < length (pairs xs) = simp length-map (omega arith) in
-    let in-n : n < length (pairs xs) = simp length-map nl in
+    let in_n : n < length (pairs xs) = simp length-map nl in
     let from : (j : ℕ) → at (homes hashed cap (pairs ys)) i ≡ at (homes hashed cap (pairs xs)) j
     → at (tags hashed (pairs ys)) i ≡ at (tags hashed (pairs xs)) j → j < n + 1
     → bit_of (two (marked ys) (bucket_of hashed ys i)) (at (tags hashed (pairs ys)) i) ≡ 1 =
@@ -94,8 +94,8 @@ marked_moved {K} {V} hashed xs ys n g M gn nl ep em el i lt =
     elim (cases_eq i g) [
       | inl q ↦
           from n
-          (ap (at (homes hashed cap (pairs ys))) q ∙ copied_part (λ k. home cap (hashed k)) (pairs xs) (pairs ys) g n in_g in-n ep)
-          (ap (at (tags hashed (pairs ys))) q ∙ copied_part (λ k. mark (hashed k)) (pairs xs) (pairs ys) g n in_g in-n ep) (omega arith)
+          (ap (at (homes hashed cap (pairs ys))) q ∙ copied_part (λ k. home cap (hashed k)) (pairs xs) (pairs ys) g n in_g in_n ep)
+          (ap (at (tags hashed (pairs ys))) q ∙ copied_part (λ k. mark (hashed k)) (pairs xs) (pairs ys) g n in_g in_n ep) (omega arith)
       | inr ne ↦
           from i (kept_part (λ k. home cap (hashed k)) (pairs xs) (pairs ys) g n ep in_g i ne)
           (kept_part (λ k. mark (hashed k)) (pairs xs) (pairs ys) g n ep in_g i ne) (omega arith)

@@ -50,14 +50,14 @@ returns g c =
     let x = c.pop_first-first.result in
     let off = off_row mem es s.alone i p.place h c.value_at-row.ensures in
     let es' = entries c.set_value.new.self in
-    let rowed-put : (d : g.row.N.Denot) → rowed mem' es' ≡ put_row (rowed mem es) i d (listed mem' h') = λ d.
+    let rowed_put : (d : g.row.N.Denot) → rowed mem' es' ≡ put_row (rowed mem es) i d (listed mem' h') = λ d.
     let f : g.row.N.Denot × RowHead = (d, bare) in
     ap (rowed mem') (put f)
     ∙ edited_rows mem mem' es i (get_or es i f).0 h' (listed mem h) s.small same s.rings p.place a.kept a.linked off
     ∙ sym (ap (λ v. set (rowed mem es) i (v.0, listed mem' h')) (row_read mem es i f p.place)) in
     let read : (d : g.row.N.Denot) → row_at (rowed mem' es') i d ≡ listed mem' h' = λ d.
-    ap (λ ns. row_at ns i d) (rowed-put d) ∙ ap (λ v. v.1) (read_here d (rowed mem es) i (omega (arith, rowed_length mem es, p.place)) (listed mem' h')) in
-    let rows : (d : g.row.N.Denot) → rowed mem' es' ≡ put_row (rowed mem es) i d (row_at (rowed mem' es') i d) = λ d. rowed-put d ∙ ap (put_row (rowed mem es) i d) (sym (read d)) in
+    ap (λ ns. row_at ns i d) (rowed_put d) ∙ ap (λ v. v.1) (read_here d (rowed mem es) i (omega (arith, rowed_length mem es, p.place)) (listed mem' h')) in
+    let rows : (d : g.row.N.Denot) → rowed mem' es' ≡ put_row (rowed mem es) i d (row_at (rowed mem' es') i d) = λ d. rowed_put d ∙ ap (put_row (rowed mem es) i d) (sym (read d)) in
     let first : (d : g.row.N.Denot) → row_at (rowed mem es) i d ≡ x ∷ row_at (rowed mem' es') i d = λ d.
     let f : g.row.N.Denot × RowHead = (d, bare) in
     ap (λ v. v.1) (row_read mem es i f p.place) ∙ sym (ap (listed mem) (c.value_at-row.ensures f)) ∙ a.rest ∙ ap (λ ys. x ∷ ys) (sym (read d)) in

@@ -88,17 +88,17 @@ returns-then-same g c =
     let off : (x : ℕ) → x / 2 ≡ p → standing x ns ≡ 0 = λ x e. (c.requires.off a).out x e in
     let below : (x : ℕ) → 1 ≤ standing x ns → x < length mem = λ x h. let q = below_memory K a ks p l ns (c.requires.off a) x h in omega (arith, c.requires.within) in
     let still : (x : ℕ) → standing x (rowed mem₁ (entries t)) ≡ standing x ns = standing_still g.N.Compare.value g.N.Compare.order g.N.NodeTrait.hashed t mem mem₁ p a b same w.nexts w.prevs w.keys off below in
-    let keys-moved : (d : g.row.N.Denot) → wrote ks p a b ≡ moved ks d p l = λ d. λ i. wrote ks p (second d i) (first d i) in
+    let keys_moved : (d : g.row.N.Denot) → wrote ks p a b ≡ moved ks d p l = λ d. λ i. wrote ks p (second d i) (first d i) in
     let r = c.shift.ensures in
     let self : eq K (K.value a) (K.value b) ≡ true = sym c.same.ensures ∙ c.if-same.true in
     record {
       stage = r.stage;
       room = r.room;
-      keys = λ d. r.keys ∙ w.keys ∙ keys-moved d;
+      keys = λ d. r.keys ∙ w.keys ∙ keys_moved d;
       whole = λ d x.
           whole_self K d ks p l ns (c.requires.off d) lt fits (λ y. standing y (rowed c.shift.new.cells (entries c.shift.new.nodes))) (λ y. let u = r.standing y in let v = still y in omega arith)
           ((λ i. eq K (K.value (sym (second d) i)) (K.value (sym (first d) i))) ∙ self) x
-          ∙ sym (ap (λ z. stands K d z l x) (r.keys ∙ w.keys ∙ keys-moved d));
+          ∙ sym (ap (λ z. stands K d z l x) (r.keys ∙ w.keys ∙ keys_moved d));
       told =
           ap (λ z. noded z (rowed c.shift.new.cells (entries c.shift.new.nodes))) r.keys ∙ r.told
           ∙ noded_still g.N.Compare.value g.N.Compare.order g.N.NodeTrait.hashed t mem mem₁ p a b same w.nexts w.prevs w.keys off below;
@@ -183,18 +183,18 @@ returns g c =
     let off : (x : ℕ) → x / 2 ≡ p → standing x ns ≡ 0 = λ x e. (c.requires.off a).out x e in
     let below : (x : ℕ) → 1 ≤ standing x ns → x < length mem = λ x h. let q = below_memory K a ks p l ns (c.requires.off a) x h in omega (arith, c.requires.within) in
     let still : (x : ℕ) → standing x (rowed mem₁ (entries t)) ≡ standing x ns = standing_still g.N.Compare.value g.N.Compare.order g.N.NodeTrait.hashed t mem mem₁ p a b same w.nexts w.prevs w.keys off below in
-    let keys-moved : (d : g.row.N.Denot) → wrote ks p a b ≡ moved ks d p l = λ d. λ i. wrote ks p (second d i) (first d i) in
+    let keys_moved : (d : g.row.N.Denot) → wrote ks p a b ≡ moved ks d p l = λ d. λ i. wrote ks p (second d i) (first d i) in
     let r = c.shift.ensures in
     let r₂ = c.shift-2.ensures in
     let other : eq K (K.value a) (K.value b) ≡ false = sym c.same.ensures ∙ c.if-same.false in
     record {
       stage = r₂.stage;
       room = r₂.room ∙ r.room;
-      keys = λ d. r₂.keys ∙ r.keys ∙ w.keys ∙ keys-moved d;
+      keys = λ d. r₂.keys ∙ r.keys ∙ w.keys ∙ keys_moved d;
       whole = λ d x.
           whole_both K d ks p l ns (c.requires.off d) lt fits (λ y. standing y (rowed c.shift.new.cells (entries c.shift.new.nodes))) (λ y. let u = r.standing y in let v = still y in omega arith)
           ((λ i. eq K (K.value (sym (second d) i)) (K.value (sym (first d) i))) ∙ other) (λ y. standing y (rowed c.shift-2.new.cells (entries c.shift-2.new.nodes))) r₂.standing x
-          ∙ sym (ap (λ z. stands K d z l x) (r₂.keys ∙ r.keys ∙ w.keys ∙ keys-moved d));
+          ∙ sym (ap (λ z. stands K d z l x) (r₂.keys ∙ r.keys ∙ w.keys ∙ keys_moved d));
       told =
           ap (λ z. noded z (rowed c.shift-2.new.cells (entries c.shift-2.new.nodes))) r₂.keys ∙ r₂.told
           ∙ ap (λ z. noded z (rowed c.shift.new.cells (entries c.shift.new.nodes))) r.keys ∙ r.told

@@ -58,7 +58,7 @@ returns g c =
     c.set_marks.ensures.next
     ∙ (c.set_head.ensures.next
     ∙ (c.set_next.ensures.next ∙ ap (λ (l : List ℕ). set l len c.head_of-head.result) c.set_pair.ensures.next)) in
-    let in-nexts : len < length (nexts s) = simp length-map (omega (arith, c.requires.fits, within_memory s)) in
+    let in_nexts : len < length (nexts s) = simp length-map (omega (arith, c.requires.fits, within_memory s)) in
     let before : (x : ℕ) → two (headed r) x ≡ two (headed s) x =
     two_same (headed s) (headed r) (c.set_next.ensures.heads ∙ c.set_pair.ensures.heads) in
     let after : (x : ℕ) → two (headed t) x ≡ two (headed q) x = two_same (headed q) (headed t) c.set_marks.ensures.heads in
@@ -73,7 +73,7 @@ returns g c =
     let L : Chains none (2 * cap) (suc len) h' (two (headed t)) (at (nexts t)) =
     pushed none (2 * cap) len b (at (homes hashed cap (pairs s))) (two (headed s)) (at (nexts s)) h' (two (headed t)) (at (nexts t)) c.requires.chained
     at_home (other_home len (pairs s) (pairs t) e pair hashed cap)
-    (at_set (nexts s) (nexts t) len _ next in-nexts ∙ (c.head_of-head.ensures.value ∙ two_same (headed s) (headed p) c.set_pair.ensures.heads b))
+    (at_set (nexts s) (nexts t) len _ next in_nexts ∙ (c.head_of-head.ensures.value ∙ two_same (headed s) (headed p) c.set_pair.ensures.heads b))
     (at_other (nexts s) (nexts t) len _ next)
     (after b ∙ c.set_head.ensures.heads.here) (λ x ne. after x ∙ (c.set_head.ensures.heads.there x ne ∙ before x)) in
     record {
