@@ -26,7 +26,7 @@ swap_removed_other (x ∷ xs) g i d lt ne =
     get_or-take (length xs) (set (x ∷ xs) g (get_or (x ∷ xs) (length xs) x)) i d (omega arith)
     ∙ get_or-set_other (x ∷ xs) g i (get_or (x ∷ xs) (length xs) x) d ne
 
--- a memory whose first len elements were swap_removed at g
+-- a memory whose first len elements were swap-removed at g
 pub take_swap_removed : {A : Type 0} (ps ps' : List A) (len g : ℕ) → g < len → len ≤ length ps → length ps' ≡ length ps
     → (g + 1 < len → (d : A) → get_or ps' g d ≡ get_or ps (len - 1) d)
     → ((i : ℕ) (d : A) → i + 1 < len → (i ≡ g → ⊥) → get_or ps' i d ≡ get_or ps i d)
