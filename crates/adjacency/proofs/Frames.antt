@@ -9,6 +9,7 @@ use Rattle.rows.specs.declared.cells.Cell.{Cell}
 use Rattle.rows.specs.declared.cells.RowHead.{RowHead}
 use Rattle.rows.specs.Rings.{none, nth, Apart}
 use Rattle.rows.specs.Links.{bare, listed, Linked, Kept}
+use Rattle.rows.proofs.Rings.{apart_more}
 use Rattle.rows.proofs.Frames.{other_linked, other_listed}
 use Rattle.halfedges.specs.Cells.{count, standing}
 use Rattle.halfedges.proofs.Counts.{bit_is, bit_other, count_nth, count_apart}
@@ -70,10 +71,6 @@ fresh_count mem es e c z j l =
     let a = ap (λ n. count c n.1) (row_read mem es j e l) in
     omega arith
 
-pub apart_more : (xs : List ℕ) (c x : ℕ) → Apart x xs → (c ≡ x → ⊥) → Apart x (c ∷ xs)
-apart_more xs c x a ne zero l e = ne e
-apart_more xs c x a ne (suc k) l e = a k (omega arith) e
-
 -- the cells of other rows are apart from this one, and from a cell that stands nowhere
 module _ {N : Type 0} (mem : List (Cell N)) (es : List (N × RowHead)) (alone : (x : ℕ) → standing x (rowed mem es) ≤ 1) (i : ℕ) (li : i < length es) (h : RowHead)
     (is : (e : N × RowHead) → h ≡ (get_or es i e).1) where
@@ -82,10 +79,10 @@ module _ {N : Type 0} (mem : List (Cell N)) (es : List (N × RowHead)) (alone : 
 
   pub off_more : (c : ℕ) → standing c (rowed mem es) ≡ 0 → (j : ℕ) (e : N × RowHead) → j < length es → (j ≡ i → ⊥) → (y : ℕ) → 1 ≤ count y (listed mem (get_or es j e).1) → Apart y (c ∷ listed mem h)
   off_more c fresh j e l ne y o =
-      apart_more (listed mem h) c y (off_row j e l ne y o)
+      apart_more (listed mem h) (off_row j e l ne y o)
       (λ q.
       let z = fresh_count mem es e c fresh j l in
-      let w = ap (λ v. count v (listed mem (get_or es j e).1)) q in
+      let w = ap (λ v. count v (listed mem (get_or es j e).1)) (sym q) in
       let no : ⊥ = omega arith in no)
 
 -- cells below n, each once at most, are n at most

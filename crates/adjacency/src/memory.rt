@@ -1,4 +1,4 @@
-ghost use Rattle.std.specs.Prelude.{◌≡◌, ◌*◌, ◌/◌, min, length};
+ghost use Rattle.std.specs.Prelude.{◌≡◌, ◌*◌, ◌/◌, min, length, take};
 
 use rows::cells::Cell;
 
@@ -14,7 +14,8 @@ pub struct Rows<'a, N> {
 impl<'a, N: Copy> Rows<'a, N> {
     /// Rows over a memory of any length: no more cells are used than the most links have.
     pub fn new(cells: &'a mut [Cell<N>]) -> Self
-        ensures { length result.cells.now ≡ min (length cells.old) 131070 }
+        ensures cells { result.cells.now ≡ take 131070 cells.old }
+        ensures length { length result.cells.now ≡ min (length cells.old) 131070 }
     {
         if cells.len() > 2 * MOST_LINKS {
             Rows {

@@ -1,10 +1,11 @@
 -- Numbers keep the laws of an order, and pairs do if both of their parts do.
-use Rattle.std.specs.Prelude.{◌≡◌, ◌⊎◌, refl}
+use Rattle.std.specs.Prelude.{◌≡◌, ◌⊎◌, true, refl}
 use Rattle.std.specs.declared.cmp.Ordering.TheVariants.{Less, Equal, Greater}
 use Rattle.std.specs.declared.cmp.Ordering.{Ordering}
 use Rattle.std.proofs.Common.{◌∙◌, ap, inl, inr, arith}
+use Rattle.std.proofs.lemmas.Bool.{false≢true}
 use Rattle.std.proofs.lemmas.Bool.Decides.{nat_tests}
-use Rattle.keys.specs.Order.{Laws}
+use Rattle.keys.specs.Order.{Laws, is_equal}
 use Rattle.keys.specs.Nodes.{by_number, then_by, by_both}
 
 pub number_laws : Laws by_number
@@ -15,6 +16,12 @@ number_laws = record {
   after_before = λ a b h. grind (arith, nat_tests);
   transitive = λ a b c h k. grind (arith, nat_tests);
 }
+
+-- the test of an order tells that it says same
+pub equal_from : (o : Ordering) → is_equal o ≡ true → o ≡ Equal
+equal_from Less e = absurd (false≢true e)
+equal_from Equal e = refl
+equal_from Greater e = absurd (false≢true e)
 
 -- both parts are equal
 equal_both : (x y : Ordering) → then_by x y ≡ Equal → (x ≡ Equal) × (y ≡ Equal)

@@ -1,16 +1,12 @@
 -- Cases of a test, and the test for equal values.
-use Rattle.std.proofs.Common.{◌≡◌, ℕ, Bool, true, false, Ordering, Less, Equal, Greater, sym, refl, subst, arith}
-use Rattle.keys.specs.Order.{Laws, is_equal}
+use Rattle.std.proofs.Common.{◌≡◌, ℕ, Bool, true, false, sym, refl, subst, arith}
+use Rattle.keys.specs.Order.{Laws}
+use Rattle.keys.specs.Laws.{equal_from}
 use Rattle.model.specs.Keys.{Keys, eq}
 
 pub by_bool : {P : Type 0} (b : Bool) → (b ≡ true → P) → (b ≡ false → P) → P
 by_bool true f g = f refl
 by_bool false f g = g refl
-
-equal_from : (r : Ordering) → is_equal r ≡ true → r ≡ Equal
-equal_from Less h = let z : ◌≡◌ {A = ℕ} 0 1 = cc in absurd (omega arith)
-equal_from Equal h = refl
-equal_from Greater h = let z : ◌≡◌ {A = ℕ} 0 1 = cc in absurd (omega arith)
 
 module _ {N V : Type 0} (K : Keys N V) (laws : Laws K.order) where
   pub eq_itself : (x : V) → eq K x x ≡ true

@@ -1,8 +1,9 @@
 -- A search for a key down the chain of its bucket.
-use Rattle.std.proofs.Common.{◌≡◌, ℕ, ◌<◌, ◌≤◌, true, false, List, [], ◌∷◌, map, length, get_or, take, Some, None, Ok, Err, Option, Ordering, Less, Equal, Greater, sym, refl, ap, ◌∙◌, inl, inr, arith}
+use Rattle.std.proofs.Common.{◌≡◌, ℕ, ◌<◌, ◌≤◌, true, false, List, [], ◌∷◌, map, length, get_or, take, Some, None, Ok, Err, Option, Ordering, sym, refl, ap, ◌∙◌, inl, inr, arith}
 use Rattle.std.proofs.lemmas.List.{length-take-le, length-map, get_or-take, get_or-map}
-use Rattle.std.proofs.lemmas.Bool.{cases_lt, cases_Bool, both_ways, false≢true}
+use Rattle.std.proofs.lemmas.Bool.{cases_lt, cases_Bool, both_ways}
 use Rattle.keys.specs.Order.{Laws, is_equal, alike}
+use Rattle.keys.specs.Laws.{equal_from}
 use Rattle.lists.specs.Latest.{latest}
 use Rattle.lists.proofs.Latest.{latest_covers}
 use Rattle.table.specs.declared.slot.Slot.{Slot}
@@ -60,11 +61,6 @@ pub key_of_slot : {K V : Type 0} (xs : List (Slot K V)) (len : ℕ) → len ≤ 
     → (get_or (take len (pairs xs)) i d).0 ≡ (get_or xs i s).key
 key_of_slot {K} {V} xs len fits i s d lt =
     ap (λ (z : K × V). z.0) (entry_at xs len fits i d lt ∙ get_or-map (λ (z : Slot K V). (z.key, z.value)) xs i s d (omega arith))
-
-equal_from : (o : Ordering) → is_equal o ≡ true → o ≡ Equal
-equal_from Less e = absurd (false≢true e)
-equal_from Equal e = refl
-equal_from Greater e = absurd (false≢true e)
 
 -- equal by test is equal by value, and not by test is not
 module _ {W : Type 0} (order : W → W → Ordering) (laws : Laws order) where
