@@ -2,11 +2,12 @@
 use Rattle.std.specs.Prelude.{◌≡◌, ◌⊎◌, true, refl}
 use Rattle.std.specs.declared.cmp.Ordering.TheVariants.{Less, Equal, Greater}
 use Rattle.std.specs.declared.cmp.Ordering.{Ordering}
+use Rattle.std.specs.Ordering.{is_eq, ordering_then}
 use Rattle.std.proofs.Common.{◌∙◌, ap, inl, inr, arith}
 use Rattle.std.proofs.lemmas.Bool.{false≢true}
 use Rattle.std.proofs.lemmas.Bool.Decides.{nat_tests}
-use Rattle.keys.specs.Order.{Laws, is_equal}
-use Rattle.keys.specs.Nodes.{by_number, then_by, by_both}
+use Rattle.keys.specs.Order.{Laws}
+use Rattle.keys.specs.Nodes.{by_number, by_both}
 
 pub number_laws : Laws by_number
 number_laws = record {
@@ -18,24 +19,24 @@ number_laws = record {
 }
 
 -- the test of an order tells that it says same
-pub equal_from : (o : Ordering) → is_equal o ≡ true → o ≡ Equal
+pub equal_from : (o : Ordering) → is_eq o ≡ true → o ≡ Equal
 equal_from Less e = absurd (false≢true e)
 equal_from Equal e = refl
 equal_from Greater e = absurd (false≢true e)
 
 -- both parts are equal
-equal_both : (x y : Ordering) → then_by x y ≡ Equal → (x ≡ Equal) × (y ≡ Equal)
+equal_both : (x y : Ordering) → ordering_then x y ≡ Equal → (x ≡ Equal) × (y ≡ Equal)
 equal_both Less y h = grind arith
 equal_both Equal y h = (refl, h)
 equal_both Greater y h = grind arith
 
 -- the first part decides, or it is equal and the second does
-less_one : (x y : Ordering) → then_by x y ≡ Less → (x ≡ Less) ⊎ ((x ≡ Equal) × (y ≡ Less))
+less_one : (x y : Ordering) → ordering_then x y ≡ Less → (x ≡ Less) ⊎ ((x ≡ Equal) × (y ≡ Less))
 less_one Less y h = inl refl
 less_one Equal y h = inr (refl, h)
 less_one Greater y h = grind arith
 
-greater_one : (x y : Ordering) → then_by x y ≡ Greater → (x ≡ Greater) ⊎ ((x ≡ Equal) × (y ≡ Greater))
+greater_one : (x y : Ordering) → ordering_then x y ≡ Greater → (x ≡ Greater) ⊎ ((x ≡ Equal) × (y ≡ Greater))
 greater_one Less y h = grind arith
 greater_one Equal y h = inr (refl, h)
 greater_one Greater y h = inl refl
@@ -72,3 +73,7 @@ pair_laws f g F G = record {
         ]
       ];
 }
+
+-- the parts of two pairs are compared so, and so are the pairs
+pub both_by : {p q r s : Ordering} → p ≡ r → q ≡ s → ordering_then p q ≡ ordering_then r s
+both_by e d = cc

@@ -1,31 +1,27 @@
 ghost use Rattle.std.specs.Prelude.{◌≡◌, ℕ};
+ghost use Rattle.std.proofs.Common.{rules};
 ghost use Rattle.keys.specs.Hashes.{spread_of, fold_of, packed_of, seat_hash, pair_hash};
 ghost use Rattle.keys.specs.Nodes.{by_number, by_both, by_seat};
-ghost use Rattle.keys.specs.Laws.{number_laws, pair_laws};
+ghost use Rattle.keys.specs.Laws.{number_laws, pair_laws, both_by};
 
-use crate::order::{Compare, NodeTrait};
-use std::cmp::Ordering;
+use crate::order::NodeTrait;
 
 /// An account by its number.
-#[derive(Clone, Copy, PartialEq, Eq, Debug)]
+#[derive(Clone, Copy, PartialEq, Eq, PartialOrd, Ord, Debug)]
 pub struct Account(pub u32);
 
-impl Compare for Account {
+impl NodeTrait for Account {
     ghost Value = { ℕ };
 
     ghost value = { λ a. a.0 };
 
     ghost order = { by_number };
 
+    ghost hashed = { λ a. spread_of a.0 };
+
     ghost ordered = { number_laws };
 
-    fn compare(&self, other: &Account) -> Ordering {
-        self.0.cmp(&other.0)
-    }
-}
-
-impl NodeTrait for Account {
-    ghost hashed = { λ a. spread_of a.0 };
+    ghost compares = { Prim.search rules };
 
     fn hash(&self) -> u64 {
         spread(u64::from(self.0))
@@ -33,32 +29,25 @@ impl NodeTrait for Account {
 }
 
 /// A seat of a hall. Seats go by row, then by section, then by number.
-#[derive(Clone, Copy, PartialEq, Eq, Debug)]
+#[derive(Clone, Copy, PartialEq, Eq, PartialOrd, Ord, Debug)]
 pub struct Seat {
-    pub section: u8,
     pub row: u8,
+    pub section: u8,
     pub number: u16,
 }
 
-impl Compare for Seat {
+impl NodeTrait for Seat {
     ghost Value = { ℕ × (ℕ × ℕ) };
 
     ghost value = { λ s. (s.row, (s.section, s.number)) };
 
     ghost order = { by_seat };
 
+    ghost hashed = { λ s. seat_hash s.row s.section s.number };
+
     ghost ordered = { pair_laws by_number (by_both by_number by_number) number_laws (pair_laws by_number by_number number_laws number_laws) };
 
-    fn compare(&self, other: &Seat) -> Ordering {
-        let row = self.row.cmp(&other.row);
-        let section = self.section.cmp(&other.section);
-        let number = self.number.cmp(&other.number);
-        row.then(section).then(number)
-    }
-}
-
-impl NodeTrait for Seat {
-    ghost hashed = { λ s. seat_hash s.row s.section s.number };
+    ghost compares = { Prim.search rules };
 
     fn hash(&self) -> u64 {
         fold(spread(packed(self)))
@@ -66,25 +55,18 @@ impl NodeTrait for Seat {
 }
 
 /// Two keys together are a key: the first parts are compared, and the second where those are equal.
-impl<A: Compare, B: Compare> Compare for (A, B) {
-    ghost Value = { A.Compare.Value × B.Compare.Value };
-
-    ghost value = { λ p. (A.Compare.value p.0, B.Compare.value p.1) };
-
-    ghost order = { by_both A.Compare.order B.Compare.order };
-
-    ghost ordered = { pair_laws A.Compare.order B.Compare.order A.Compare.ordered B.Compare.ordered };
-
-    fn compare(&self, other: &(A, B)) -> Ordering {
-        match self.0.compare(&other.0) {
-            Ordering::Equal => self.1.compare(&other.1),
-            decided => decided,
-        }
-    }
-}
-
 impl<A: NodeTrait, B: NodeTrait> NodeTrait for (A, B) {
-    ghost hashed = { λ p. pair_hash (A.NodeTrait.hashed p.0) (B.NodeTrait.hashed p.1) };
+    ghost Value = { A.Value × B.Value };
+
+    ghost value = { λ p. (A.value p.0, B.value p.1) };
+
+    ghost order = { by_both A.order B.order };
+
+    ghost hashed = { λ p. pair_hash (A.hashed p.0) (B.hashed p.1) };
+
+    ghost ordered = { pair_laws A.order B.order A.ordered B.ordered };
+
+    ghost compares = { λ p q. both_by (A.compares p.0 q.0) (B.compares p.1 q.1) };
 
     fn hash(&self) -> u64 {
         fold(self.0.hash().rotate_left(29) ^ self.1.hash())

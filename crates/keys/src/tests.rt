@@ -16,18 +16,18 @@ fn seat(row: u8, section: u8, number: u16) -> Seat {
 #[test]
 fn seats_go_by_row_then_section_then_number(rt: HostRuntime) {
     let here = seat(2, 5, 7);
-    assert_eq!(rt; here.compare(&seat(3, 1, 1)), Ordering::Less);
-    assert_eq!(rt; here.compare(&seat(2, 4, 9)), Ordering::Greater);
-    assert_eq!(rt; here.compare(&seat(2, 5, 8)), Ordering::Less);
-    assert!(rt; same(&here, &seat(2, 5, 7)));
+    assert_eq!(rt; here.cmp(&seat(3, 1, 1)), Ordering::Less);
+    assert_eq!(rt; here.cmp(&seat(2, 4, 9)), Ordering::Greater);
+    assert_eq!(rt; here.cmp(&seat(2, 5, 8)), Ordering::Less);
+    assert!(rt; here == seat(2, 5, 7));
 }
 
 #[test]
 fn pairs_go_by_the_first_then_the_second(rt: HostRuntime) {
     let pair = (Account(4), Account(6));
-    assert_eq!(rt; pair.compare(&(Account(5), Account(0))), Ordering::Less);
-    assert_eq!(rt; pair.compare(&(Account(4), Account(5))), Ordering::Greater);
-    assert!(rt; same(&pair, &(Account(4), Account(6))));
+    assert_eq!(rt; pair.cmp(&(Account(5), Account(0))), Ordering::Less);
+    assert_eq!(rt; pair.cmp(&(Account(4), Account(5))), Ordering::Greater);
+    assert!(rt; pair == (Account(4), Account(6)));
     assert_ne!(rt; pair.hash(), (Account(6), Account(4)).hash());
 }
 
