@@ -11,7 +11,7 @@ ghost use Rattle.adjacency.specs.Parts.{Sound, state_of};
 use crate::joins::{join, lacking};
 use crate::memory::Rows;
 use keys::kinds::Kind;
-use keys::order::{Compare, NodeTrait, same};
+use keys::nodes::NodeTrait;
 use keys::refusals::Refusal;
 use rows::cells::RowHead;
 use std::cmp::Ordering;
@@ -19,7 +19,7 @@ use table::table::{Table, Vacancy};
 
 /// The key that the link from `a` to `b` is stored under.
 pub fn edge_key<N: NodeTrait>(kind: Kind, a: N, b: N) -> (N, N)
-    ensures { result ≡ edge_key (keys N.Compare.value N.Compare.order) kind a b }
+    ensures { result ≡ edge_key (keys N.value N.order) kind a b }
 {
     match kind {
         Kind::Directed => (a, b),
@@ -41,10 +41,10 @@ fn add_new<N: NodeTrait, E: Copy>(
     w: E,
     v: Vacancy,
 ) -> Result<Option<E>, Refusal>
-    requires sound { Sound N.Compare.value N.Compare.order N.NodeTrait.hashed kind nodes.old links.old rows.old.cells.now }
-    requires absent { sought (by_both N.Compare.order N.Compare.order) (λ p. (N.Compare.value p.0, N.Compare.value p.1)) (λ p. pair_hash (N.NodeTrait.hashed p.0) (N.NodeTrait.hashed p.1)) (capacity links.old) (entries links.old) (edge_key (keys N.Compare.value N.Compare.order) kind a b) ≡ Vacant v }
-    ensures sound { Sound N.Compare.value N.Compare.order N.NodeTrait.hashed kind nodes.new links.new rows.new.cells.now }
-    ensures done { (result, state_of kind nodes.new links.new rows.new.cells.now) ≡ add_new (keys N.Compare.value N.Compare.order) a b w (state_of kind nodes.old links.old rows.old.cells.now) }
+    requires sound { Sound N.value N.order N.hashed kind nodes.old links.old rows.old.cells.now }
+    requires absent { sought (by_both N.order N.order) (λ p. (N.value p.0, N.value p.1)) (λ p. pair_hash (N.hashed p.0) (N.hashed p.1)) (capacity links.old) (entries links.old) (edge_key (keys N.value N.order) kind a b) ≡ Vacant v }
+    ensures sound { Sound N.value N.order N.hashed kind nodes.new links.new rows.new.cells.now }
+    ensures done { (result, state_of kind nodes.new links.new rows.new.cells.now) ≡ add_new (keys N.value N.order) a b w (state_of kind nodes.old links.old rows.old.cells.now) }
 {
     let p = links.len();
     if p >= links.capacity().min(rows.room()) {
@@ -52,7 +52,7 @@ fn add_new<N: NodeTrait, E: Copy>(
     }
     let first = nodes.find(&a);
     let second = nodes.find(&b);
-    let more = lacking(first, second, same(&a, &b));
+    let more = lacking(first, second, a == b);
     if nodes.capacity() - nodes.len() < more {
         return Err(Refusal::NodesFull);
     }
@@ -71,9 +71,9 @@ pub fn add_edge<N: NodeTrait, E: Copy>(
     b: N,
     w: E,
 ) -> Result<Option<E>, Refusal>
-    requires sound { Sound N.Compare.value N.Compare.order N.NodeTrait.hashed kind nodes.old links.old rows.old.cells.now }
-    ensures sound { Sound N.Compare.value N.Compare.order N.NodeTrait.hashed kind nodes.new links.new rows.new.cells.now }
-    ensures done { (result, state_of kind nodes.new links.new rows.new.cells.now) ≡ add_edge (keys N.Compare.value N.Compare.order) a b w (state_of kind nodes.old links.old rows.old.cells.now) }
+    requires sound { Sound N.value N.order N.hashed kind nodes.old links.old rows.old.cells.now }
+    ensures sound { Sound N.value N.order N.hashed kind nodes.new links.new rows.new.cells.now }
+    ensures done { (result, state_of kind nodes.new links.new rows.new.cells.now) ≡ add_edge (keys N.value N.order) a b w (state_of kind nodes.old links.old rows.old.cells.now) }
 {
     match links.find(&edge_key(kind, a, b)) {
         Ok(p) => Ok(links.set_value(p, w)),

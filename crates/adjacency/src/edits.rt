@@ -9,7 +9,7 @@ ghost use Rattle.rows.specs.HalfEdges.{twin};
 ghost use Rattle.halfedges.specs.Cells.{count, standing, named, row_at, put_row};
 ghost use Rattle.adjacency.specs.Stages.{Stage, rowed};
 
-use keys::order::{Compare, NodeTrait};
+use keys::nodes::NodeTrait;
 use rows::cells::{Cell, RowHead};
 use rows::row::{append, pop_first, replace, swap_remove};
 use table::table::Table;
@@ -21,12 +21,12 @@ pub(crate) fn enter<N: NodeTrait>(
     i: usize,
     c: u32,
 )
-    requires stage { Stage N.Compare.value N.Compare.order N.NodeTrait.hashed nodes.old cells.old }
+    requires stage { Stage N.value N.order N.hashed nodes.old cells.old }
     requires place { i < length (entries nodes.old) }
     requires within { c < length cells.old }
     requires fresh { standing c (rowed cells.old (entries nodes.old)) ≡ 0 }
-    requires own { (d : N) → named (keys N.Compare.value N.Compare.order) d (cell_keys cells.old) (twin c) ≡ N.Compare.value (slice_index_or (rowed cells.old (entries nodes.old)) i (d, [])).0 }
-    ensures stage { Stage N.Compare.value N.Compare.order N.NodeTrait.hashed nodes.new cells.new }
+    requires own { (d : N) → named (keys N.value N.order) d (cell_keys cells.old) (twin c) ≡ N.value (slice_index_or (rowed cells.old (entries nodes.old)) i (d, [])).0 }
+    ensures stage { Stage N.value N.order N.hashed nodes.new cells.new }
     ensures room { capacity nodes.new ≡ capacity nodes.old }
     ensures keys { cell_keys cells.new ≡ cell_keys cells.old }
     ensures rows { (d : N) → rowed cells.new (entries nodes.new) ≡ put_row (rowed cells.old (entries nodes.old)) i d (row_at (rowed cells.old (entries nodes.old)) i d ++ c ∷ []) }
@@ -43,10 +43,10 @@ pub(crate) fn leave<N: NodeTrait>(
     i: usize,
     c: u32,
 )
-    requires stage { Stage N.Compare.value N.Compare.order N.NodeTrait.hashed nodes.old cells.old }
+    requires stage { Stage N.value N.order N.hashed nodes.old cells.old }
     requires place { i < length (entries nodes.old) }
     requires held { (d : N) → 1 ≤ count c (row_at (rowed cells.old (entries nodes.old)) i d) }
-    ensures stage { Stage N.Compare.value N.Compare.order N.NodeTrait.hashed nodes.new cells.new }
+    ensures stage { Stage N.value N.order N.hashed nodes.new cells.new }
     ensures room { capacity nodes.new ≡ capacity nodes.old }
     ensures keys { cell_keys cells.new ≡ cell_keys cells.old }
     ensures rows { (d : N) (k : ℕ) → k < length (row_at (rowed cells.old (entries nodes.old)) i d) → nth (row_at (rowed cells.old (entries nodes.old)) i d) k ≡ c → rowed cells.new (entries nodes.new) ≡ put_row (rowed cells.old (entries nodes.old)) i d (swap_removed (row_at (rowed cells.old (entries nodes.old)) i d) k) }
@@ -62,10 +62,10 @@ pub(crate) fn behead<N: NodeTrait>(
     cells: &mut [Cell<N>],
     i: usize,
 ) -> u32
-    requires stage { Stage N.Compare.value N.Compare.order N.NodeTrait.hashed nodes.old cells.old }
+    requires stage { Stage N.value N.order N.hashed nodes.old cells.old }
     requires place { i < length (entries nodes.old) }
     requires some { (d : N) → 0 < length (row_at (rowed cells.old (entries nodes.old)) i d) }
-    ensures stage { Stage N.Compare.value N.Compare.order N.NodeTrait.hashed nodes.new cells.new }
+    ensures stage { Stage N.value N.order N.hashed nodes.new cells.new }
     ensures room { capacity nodes.new ≡ capacity nodes.old }
     ensures keys { cell_keys cells.new ≡ cell_keys cells.old }
     ensures first { (d : N) → row_at (rowed cells.old (entries nodes.old)) i d ≡ result ∷ row_at (rowed cells.new (entries nodes.new)) i d }
@@ -85,13 +85,13 @@ pub(crate) fn rename<N: NodeTrait>(
     old: u32,
     new: u32,
 )
-    requires stage { Stage N.Compare.value N.Compare.order N.NodeTrait.hashed nodes.old cells.old }
+    requires stage { Stage N.value N.order N.hashed nodes.old cells.old }
     requires place { i < length (entries nodes.old) }
     requires within { new < length cells.old }
     requires fresh { standing new (rowed cells.old (entries nodes.old)) ≡ 0 }
     requires held { (d : N) → 1 ≤ count old (row_at (rowed cells.old (entries nodes.old)) i d) }
-    requires own { (d : N) → named (keys N.Compare.value N.Compare.order) d (cell_keys cells.old) (twin new) ≡ N.Compare.value (slice_index_or (rowed cells.old (entries nodes.old)) i (d, [])).0 }
-    ensures stage { Stage N.Compare.value N.Compare.order N.NodeTrait.hashed nodes.new cells.new }
+    requires own { (d : N) → named (keys N.value N.order) d (cell_keys cells.old) (twin new) ≡ N.value (slice_index_or (rowed cells.old (entries nodes.old)) i (d, [])).0 }
+    ensures stage { Stage N.value N.order N.hashed nodes.new cells.new }
     ensures room { capacity nodes.new ≡ capacity nodes.old }
     ensures keys { cell_keys cells.new ≡ cell_keys cells.old }
     ensures rows { (d : N) (k : ℕ) → k < length (row_at (rowed cells.old (entries nodes.old)) i d) → nth (row_at (rowed cells.old (entries nodes.old)) i d) k ≡ old → rowed cells.new (entries nodes.new) ≡ put_row (rowed cells.old (entries nodes.old)) i d (slice_set (row_at (rowed cells.old (entries nodes.old)) i d) k new) }

@@ -14,7 +14,7 @@ ghost use Rattle.adjacency.specs.Stages.{Stage, rowed};
 ghost use Rattle.adjacency.specs.Seats.{vacant, seated_in, lacking_of};
 
 use crate::edits::enter;
-use keys::order::{Compare, NodeTrait, same};
+use keys::nodes::NodeTrait;
 use rows::cells::{Cell, RowHead};
 use rows::links::set_key;
 use table::table::{Table, Vacancy};
@@ -25,13 +25,13 @@ fn seat<N: NodeTrait>(
     n: N,
     found: Result<usize, Vacancy>,
 ) -> usize
-    requires nodes { SoundTable N.Compare.value N.NodeTrait.hashed nodes.old }
-    requires found { found ≡ sought N.Compare.order N.Compare.value N.NodeTrait.hashed (capacity nodes.old) (entries nodes.old) n }
+    requires nodes { SoundTable N.value N.hashed nodes.old }
+    requires found { found ≡ sought N.order N.value N.hashed (capacity nodes.old) (entries nodes.old) n }
     requires room { length (entries nodes.old) + vacant found ≤ capacity nodes.old }
-    ensures nodes { SoundTable N.Compare.value N.NodeTrait.hashed nodes.new }
+    ensures nodes { SoundTable N.value N.hashed nodes.new }
     ensures room { capacity nodes.new ≡ capacity nodes.old }
-    ensures there { position (λ e. alike N.Compare.order (N.Compare.value e.0) (N.Compare.value n)) (entries nodes.new) ≡ Somewhere result }
-    ensures seated { entries nodes.new ≡ seated_in (keys N.Compare.value N.Compare.order) n (entries nodes.old) }
+    ensures there { position (λ e. alike N.order (N.value e.0) (N.value n)) (entries nodes.new) ≡ Somewhere result }
+    ensures seated { entries nodes.new ≡ seated_in (keys N.value N.order) n (entries nodes.old) }
 {
     match found {
         Ok(i) => i,
@@ -51,19 +51,19 @@ fn note<N: NodeTrait>(
     found: Result<usize, Vacancy>,
     c: u32,
 )
-    requires stage { Stage N.Compare.value N.Compare.order N.NodeTrait.hashed nodes.old cells.old }
-    requires found { found ≡ sought N.Compare.order N.Compare.value N.NodeTrait.hashed (capacity nodes.old) (entries nodes.old) n }
+    requires stage { Stage N.value N.order N.hashed nodes.old cells.old }
+    requires found { found ≡ sought N.order N.value N.hashed (capacity nodes.old) (entries nodes.old) n }
     requires room { length (entries nodes.old) + vacant found ≤ capacity nodes.old }
     requires within { c < length cells.old }
     requires fresh { standing c (rowed cells.old (entries nodes.old)) ≡ 0 }
-    requires own { (d : N) → named (keys N.Compare.value N.Compare.order) d (cell_keys cells.old) (twin c) ≡ N.Compare.value n }
-    ensures stage { Stage N.Compare.value N.Compare.order N.NodeTrait.hashed nodes.new cells.new }
+    requires own { (d : N) → named (keys N.value N.order) d (cell_keys cells.old) (twin c) ≡ N.value n }
+    ensures stage { Stage N.value N.order N.hashed nodes.new cells.new }
     ensures room { capacity nodes.new ≡ capacity nodes.old }
     ensures keys { cell_keys cells.new ≡ cell_keys cells.old }
     ensures standing { (x : ℕ) → standing x (rowed cells.new (entries nodes.new)) ≡ standing x (rowed cells.old (entries nodes.old)) + bit (x == c) }
-    ensures entered { (d : N) → noded (cell_keys cells.old) (rowed cells.new (entries nodes.new)) ≡ entered (keys N.Compare.value N.Compare.order) n (slice_index_or (cell_keys cells.old) c d, side c) (noded (cell_keys cells.old) (rowed cells.old (entries nodes.old))) }
+    ensures entered { (d : N) → noded (cell_keys cells.old) (rowed cells.new (entries nodes.new)) ≡ entered (keys N.value N.order) n (slice_index_or (cell_keys cells.old) c d, side c) (noded (cell_keys cells.old) (rowed cells.old (entries nodes.old))) }
     ensures more { length (entries nodes.new) ≡ length (entries nodes.old) + vacant found }
-    ensures others { (m : N) → (N.Compare.value n ≢ N.Compare.value m) → sought N.Compare.order N.Compare.value N.NodeTrait.hashed (capacity nodes.new) (entries nodes.new) m ≡ sought N.Compare.order N.Compare.value N.NodeTrait.hashed (capacity nodes.old) (entries nodes.old) m }
+    ensures others { (m : N) → (N.value n ≢ N.value m) → sought N.order N.value N.hashed (capacity nodes.new) (entries nodes.new) m ≡ sought N.order N.value N.hashed (capacity nodes.old) (entries nodes.old) m }
 {
     let i = seat(nodes, n, found);
     enter(nodes, cells, i, c);
@@ -109,21 +109,21 @@ pub(crate) fn join<N: NodeTrait>(
     first: Result<usize, Vacancy>,
     second: Result<usize, Vacancy>,
 )
-    requires stage { Stage N.Compare.value N.Compare.order N.NodeTrait.hashed nodes.old cells.old }
-    requires whole { (d : N) → Whole (keys N.Compare.value N.Compare.order) d (cell_keys cells.old) p (rowed cells.old (entries nodes.old)) }
+    requires stage { Stage N.value N.order N.hashed nodes.old cells.old }
+    requires whole { (d : N) → Whole (keys N.value N.order) d (cell_keys cells.old) p (rowed cells.old (entries nodes.old)) }
     requires within { 2 * p + 1 < length cells.old }
-    requires first { first ≡ sought N.Compare.order N.Compare.value N.NodeTrait.hashed (capacity nodes.old) (entries nodes.old) a }
-    requires second { second ≡ sought N.Compare.order N.Compare.value N.NodeTrait.hashed (capacity nodes.old) (entries nodes.old) b }
-    requires room { length (entries nodes.old) + lacking_of first second (eq (keys N.Compare.value N.Compare.order) (N.Compare.value a) (N.Compare.value b)) ≤ capacity nodes.old }
-    ensures stage { Stage N.Compare.value N.Compare.order N.NodeTrait.hashed nodes.new cells.new }
-    ensures whole { (d : N) → Whole (keys N.Compare.value N.Compare.order) d (cell_keys cells.new) (p + 1) (rowed cells.new (entries nodes.new)) }
+    requires first { first ≡ sought N.order N.value N.hashed (capacity nodes.old) (entries nodes.old) a }
+    requires second { second ≡ sought N.order N.value N.hashed (capacity nodes.old) (entries nodes.old) b }
+    requires room { length (entries nodes.old) + lacking_of first second (eq (keys N.value N.order) (N.value a) (N.value b)) ≤ capacity nodes.old }
+    ensures stage { Stage N.value N.order N.hashed nodes.new cells.new }
+    ensures whole { (d : N) → Whole (keys N.value N.order) d (cell_keys cells.new) (p + 1) (rowed cells.new (entries nodes.new)) }
     ensures room { capacity nodes.new ≡ capacity nodes.old }
     ensures keys { cell_keys cells.new ≡ wrote (cell_keys cells.old) p a b }
-    ensures joined { noded (cell_keys cells.new) (rowed cells.new (entries nodes.new)) ≡ joined (keys N.Compare.value N.Compare.order) a b (noded (cell_keys cells.old) (rowed cells.old (entries nodes.old))) }
+    ensures joined { noded (cell_keys cells.new) (rowed cells.new (entries nodes.new)) ≡ joined (keys N.value N.order) a b (noded (cell_keys cells.old) (rowed cells.old (entries nodes.old))) }
 {
     write_link(cells, p, a, b);
     note(nodes, cells, a, first, (2 * p) as u32);
-    if same(&a, &b) {
+    if a == b {
         return;
     }
     note(nodes, cells, b, second, (2 * p + 1) as u32);

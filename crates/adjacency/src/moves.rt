@@ -10,7 +10,7 @@ ghost use Rattle.adjacency.specs.Stages.{Stage, rowed};
 
 use crate::edits::rename;
 use crate::joins::write_link;
-use keys::order::{Compare, NodeTrait, same};
+use keys::nodes::NodeTrait;
 use rows::cells::{Cell, RowHead};
 use table::table::Table;
 
@@ -30,16 +30,16 @@ fn shift<N: NodeTrait>(
     old: u32,
     new: u32,
 )
-    requires stage { Stage N.Compare.value N.Compare.order N.NodeTrait.hashed nodes.old cells.old }
+    requires stage { Stage N.value N.order N.hashed nodes.old cells.old }
     requires held { standing old (rowed cells.old (entries nodes.old)) ≡ 1 }
     requires fresh { standing new (rowed cells.old (entries nodes.old)) ≡ 0 }
     requires old_within { (x : ℕ) → 1 ≤ standing x (rowed cells.old (entries nodes.old)) → x < length cells.old }
     requires within { new < length cells.old }
-    requires own { (d : N) → named (keys N.Compare.value N.Compare.order) d (cell_keys cells.old) (twin old) ≡ N.Compare.value n }
-    requires owner { (d : N) → named (keys N.Compare.value N.Compare.order) d (cell_keys cells.old) (twin new) ≡ N.Compare.value n }
+    requires own { (d : N) → named (keys N.value N.order) d (cell_keys cells.old) (twin old) ≡ N.value n }
+    requires owner { (d : N) → named (keys N.value N.order) d (cell_keys cells.old) (twin new) ≡ N.value n }
     requires entry { (d : N) → slice_index_or (cell_keys cells.old) new d ≡ slice_index_or (cell_keys cells.old) old d }
     requires side { side new ≡ side old }
-    ensures stage { Stage N.Compare.value N.Compare.order N.NodeTrait.hashed nodes.new cells.new }
+    ensures stage { Stage N.value N.order N.hashed nodes.new cells.new }
     ensures room { capacity nodes.new ≡ capacity nodes.old }
     ensures keys { cell_keys cells.new ≡ cell_keys cells.old }
     ensures standing { (x : ℕ) → standing x (rowed cells.new (entries nodes.new)) + bit (x == old) ≡ standing x (rowed cells.old (entries nodes.old)) + bit (x == new) }
@@ -58,14 +58,14 @@ pub(crate) fn settle<N: NodeTrait>(
     g: usize,
     l: usize,
 )
-    requires stage { Stage N.Compare.value N.Compare.order N.NodeTrait.hashed nodes.old cells.old }
-    requires off { (d : N) → Off (keys N.Compare.value N.Compare.order) d (cell_keys cells.old) g (l + 1) (rowed cells.old (entries nodes.old)) }
+    requires stage { Stage N.value N.order N.hashed nodes.old cells.old }
+    requires off { (d : N) → Off (keys N.value N.order) d (cell_keys cells.old) g (l + 1) (rowed cells.old (entries nodes.old)) }
     requires order { g ≤ l }
     requires within { 2 * l + 1 < length cells.old }
-    ensures stage { Stage N.Compare.value N.Compare.order N.NodeTrait.hashed nodes.new cells.new }
+    ensures stage { Stage N.value N.order N.hashed nodes.new cells.new }
     ensures room { capacity nodes.new ≡ capacity nodes.old }
     ensures keys { (d : N) → cell_keys cells.new ≡ moved (cell_keys cells.old) d g l }
-    ensures whole { (d : N) → Whole (keys N.Compare.value N.Compare.order) d (cell_keys cells.new) l (rowed cells.new (entries nodes.new)) }
+    ensures whole { (d : N) → Whole (keys N.value N.order) d (cell_keys cells.new) l (rowed cells.new (entries nodes.new)) }
     ensures told { noded (cell_keys cells.new) (rowed cells.new (entries nodes.new)) ≡ noded (cell_keys cells.old) (rowed cells.old (entries nodes.old)) }
 {
     if g == l {
@@ -75,7 +75,7 @@ pub(crate) fn settle<N: NodeTrait>(
     let second = key_of(cells, 2 * l + 1);
     write_link(cells, g, second, first);
     shift(nodes, cells, second, (2 * l) as u32, (2 * g) as u32);
-    if same(&second, &first) {
+    if second == first {
         return;
     }
     shift(nodes, cells, first, (2 * l + 1) as u32, (2 * g + 1) as u32);

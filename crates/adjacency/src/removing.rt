@@ -18,7 +18,7 @@ use crate::edits::leave;
 use crate::memory::Rows;
 use crate::moves::settle;
 use keys::kinds::{Direction, Kind};
-use keys::order::{Compare, NodeTrait};
+use keys::nodes::NodeTrait;
 use rows::cells::{Cell, RowHead};
 use rows::search::search;
 use table::table::Table;
@@ -39,13 +39,13 @@ pub(crate) fn unhook<N: NodeTrait, E: Copy>(
     rows: &mut Rows<'_, N>,
     p: usize,
 ) -> Option<E>
-    requires stage { Stage N.Compare.value N.Compare.order N.NodeTrait.hashed nodes.old rows.old.cells.now }
-    requires table { SoundTable {W = N.Compare.Value × N.Compare.Value} (λ q. (N.Compare.value q.0, N.Compare.value q.1)) (λ q. pair_hash (N.NodeTrait.hashed q.0) (N.NodeTrait.hashed q.1)) links.old }
+    requires stage { Stage N.value N.order N.hashed nodes.old rows.old.cells.now }
+    requires table { SoundTable {W = N.Value × N.Value} (λ q. (N.value q.0, N.value q.1)) (λ q. pair_hash (N.hashed q.0) (N.hashed q.1)) links.old }
     requires fits { 2 * length (entries links.old) ≤ length rows.old.cells.now }
-    requires off { (d : N) → Off (keys N.Compare.value N.Compare.order) d (cell_keys rows.old.cells.now) p (length (entries links.old)) (rowed rows.old.cells.now (entries nodes.old)) }
-    requires keyed { (d : N) → Keyed (keys N.Compare.value N.Compare.order) d kind (cell_keys rows.old.cells.now) (entries links.old) }
+    requires off { (d : N) → Off (keys N.value N.order) d (cell_keys rows.old.cells.now) p (length (entries links.old)) (rowed rows.old.cells.now (entries nodes.old)) }
+    requires keyed { (d : N) → Keyed (keys N.value N.order) d kind (cell_keys rows.old.cells.now) (entries links.old) }
     requires place { p < length (entries links.old) }
-    ensures sound { Sound N.Compare.value N.Compare.order N.NodeTrait.hashed kind nodes.new links.new rows.new.cells.now }
+    ensures sound { Sound N.value N.order N.hashed kind nodes.new links.new rows.new.cells.now }
     ensures weight { (e : (N × N) × E) → result ≡ Somewhere (slice_index_or (entries links.old) p e).1 }
     ensures links { entries links.new ≡ swap_removed (entries links.old) p }
     ensures told { noded (cell_keys rows.new.cells.now) (rowed rows.new.cells.now (entries nodes.new)) ≡ noded (cell_keys rows.old.cells.now) (rowed rows.old.cells.now (entries nodes.old)) }
@@ -71,10 +71,10 @@ fn entry_of<N: NodeTrait>(
     a: &N,
     b: &N,
 ) -> Option<u32>
-    requires stage { Stage N.Compare.value N.Compare.order N.NodeTrait.hashed nodes.now rows.now.cells.now }
+    requires stage { Stage N.value N.order N.hashed nodes.now rows.now.cells.now }
     requires from { i < length (entries nodes.now) }
     requires to { j < length (entries nodes.now) }
-    ensures { (d : N) → Looked (keys N.Compare.value N.Compare.order) d kind (cell_keys rows.now.cells.now) (rowed rows.now.cells.now (entries nodes.now)) i j (N.Compare.value a.now) (N.Compare.value b.now) result }
+    ensures { (d : N) → Looked (keys N.value N.order) d kind (cell_keys rows.now.cells.now) (rowed rows.now.cells.now (entries nodes.now)) i j (N.value a.now) (N.value b.now) result }
 {
     let from = nodes.value_at(i);
     let to = nodes.value_at(j);
@@ -95,12 +95,12 @@ fn sever<N: NodeTrait>(
     j: usize,
     c: u32,
 )
-    requires stage { Stage N.Compare.value N.Compare.order N.NodeTrait.hashed nodes.old cells.old }
+    requires stage { Stage N.value N.order N.hashed nodes.old cells.old }
     requires from { i < length (entries nodes.old) }
     requires to { j < length (entries nodes.old) }
     requires held { (d : N) → 1 ≤ count c (row_at (rowed cells.old (entries nodes.old)) i d) }
     requires other { (i ≢ j) → (d : N) → 1 ≤ count (twin c) (row_at (rowed cells.old (entries nodes.old)) j d) }
-    ensures stage { Stage N.Compare.value N.Compare.order N.NodeTrait.hashed nodes.new cells.new }
+    ensures stage { Stage N.value N.order N.hashed nodes.new cells.new }
     ensures room { capacity nodes.new ≡ capacity nodes.old }
     ensures keys { cell_keys cells.new ≡ cell_keys cells.old }
     ensures one { i ≡ j → (d : N) (k : ℕ) → k < length (row_at (rowed cells.old (entries nodes.old)) i d) → nth (row_at (rowed cells.old (entries nodes.old)) i d) k ≡ c → rowed cells.new (entries nodes.new) ≡ put_row (rowed cells.old (entries nodes.old)) i d (swap_removed (row_at (rowed cells.old (entries nodes.old)) i d) k) }
@@ -122,9 +122,9 @@ pub fn remove_edge<N: NodeTrait, E: Copy>(
     a: N,
     b: N,
 ) -> Option<E>
-    requires sound { Sound N.Compare.value N.Compare.order N.NodeTrait.hashed kind nodes.old links.old rows.old.cells.now }
-    ensures sound { Sound N.Compare.value N.Compare.order N.NodeTrait.hashed kind nodes.new links.new rows.new.cells.now }
-    ensures done { (result, state_of kind nodes.new links.new rows.new.cells.now) ≡ remove_edge (keys N.Compare.value N.Compare.order) a b (state_of kind nodes.old links.old rows.old.cells.now) }
+    requires sound { Sound N.value N.order N.hashed kind nodes.old links.old rows.old.cells.now }
+    ensures sound { Sound N.value N.order N.hashed kind nodes.new links.new rows.new.cells.now }
+    ensures done { (result, state_of kind nodes.new links.new rows.new.cells.now) ≡ remove_edge (keys N.value N.order) a b (state_of kind nodes.old links.old rows.old.cells.now) }
 {
     let Ok(i) = nodes.find(&a) else {
         return None;

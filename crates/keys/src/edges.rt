@@ -18,10 +18,11 @@ pub trait IntoWeightedEdge<E>: Copy {
 impl<N: Copy, E: Weight> IntoWeightedEdge<E> for (N, N) {
     type NodeId = N;
 
-    ghost item = { λ p. (p.0, p.1, E.Weight.defaulted) };
+    ghost item = { λ p. (p.0, p.1, E.defaulted) };
 
     fn into_weighted_edge(self) -> (N, N, E) {
-        (self.0, self.1, E::default_weight())
+        let (source, target) = self;
+        (source, target, E::default())
     }
 }
 
@@ -31,7 +32,7 @@ impl<N: Copy, E: Copy> IntoWeightedEdge<E> for (N, N, E) {
 
     ghost item = { λ p. (p.0, p.1, p.2) };
 
-    fn into_weighted_edge(self) -> (N, N, E) {
-        (self.0, self.1, self.2)
+    fn into_weighted_edge(self) -> Self {
+        self
     }
 }

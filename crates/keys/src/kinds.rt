@@ -2,12 +2,12 @@ ghost use Rattle.std.specs.Prelude.{◌≡◌};
 ghost use Rattle.keys.specs.Kinds.{opposite_of, index_of, directed};
 
 /// Which way the links at a node are followed.
-#[derive(Clone, Copy, PartialEq, Eq, Debug)]
+#[derive(Clone, Copy, PartialEq, Eq, PartialOrd, Ord, Debug)]
 pub enum Direction {
     /// From the node to the other end.
-    Outgoing,
+    Outgoing = 0,
     /// From the other end to the node.
-    Incoming,
+    Incoming = 1,
 }
 
 impl Direction {
@@ -25,10 +25,7 @@ impl Direction {
     pub fn index(self) -> usize
         ensures { result ≡ index_of self }
     {
-        match self {
-            Direction::Outgoing => 0,
-            Direction::Incoming => 1,
-        }
+        self as usize
     }
 }
 
@@ -46,9 +43,6 @@ impl Kind {
     pub fn is_directed(self) -> bool
         ensures { result ≡ directed self }
     {
-        match self {
-            Kind::Directed => true,
-            Kind::Undirected => false,
-        }
+        self == Kind::Directed
     }
 }

@@ -3,7 +3,6 @@
 pub mod edges;
 pub mod kinds;
 pub mod nodes;
-pub mod order;
 pub mod refusals;
 #[cfg(test)]
 mod tests;

@@ -1,10 +1,29 @@
 ghost use Rattle.std.specs.Prelude.{◌≡◌, ℕ};
 ghost use Rattle.std.proofs.Common.{rules};
+ghost use Rattle.std.specs.declared.cmp.Ordering.{Ordering};
+ghost use Rattle.keys.specs.Order.{Laws};
 ghost use Rattle.keys.specs.Hashes.{spread_of, fold_of, packed_of, seat_hash, pair_hash};
 ghost use Rattle.keys.specs.Nodes.{by_number, by_both, by_seat};
 ghost use Rattle.keys.specs.Laws.{number_laws, pair_laws, both_by};
 
-use crate::order::NodeTrait;
+/// What a node of a map is: a key that is compared by its value, with a hash that depends on its value alone.
+/// Two keys of one value are the same key, however they are represented.
+pub trait NodeTrait: Copy + Ord {
+    ghost Value: { Type 0 };
+
+    ghost value: { Self → Value };
+
+    ghost order: { Value → Value → Ordering };
+
+    ghost hashed: { Self → ℕ };
+
+    fn hash(&self) -> u64
+        ensures { (k : Self) → value k ≡ value self.now → hashed k ≡ result };
+
+    ghost ordered: { Laws order };
+
+    ghost compares: { (a b : Self) → Self.cmp a b ≡ order (value a) (value b) };
+}
 
 /// An account by its number.
 #[derive(Clone, Copy, PartialEq, Eq, PartialOrd, Ord, Debug)]
@@ -36,6 +55,15 @@ pub struct Seat {
     pub number: u16,
 }
 
+impl Seat {
+    // The row, the section and the number as one number.
+    fn packed(self) -> u64
+        ensures { result ≡ packed_of self.row self.section self.number }
+    {
+        (u64::from(self.row) * 0x100 + u64::from(self.section)) * 0x1_0000 + u64::from(self.number)
+    }
+}
+
 impl NodeTrait for Seat {
     ghost Value = { ℕ × (ℕ × ℕ) };
 
@@ -50,7 +78,7 @@ impl NodeTrait for Seat {
     ghost compares = { Prim.search rules };
 
     fn hash(&self) -> u64 {
-        fold(spread(packed(self)))
+        fold(spread(self.packed()))
     }
 }
 
@@ -89,11 +117,4 @@ fn fold(x: u64) -> u64
     ensures { result ≡ fold_of x }
 {
     spread(x ^ (x >> 32))
-}
-
-// The row, the section and the number as one number.
-fn packed(seat: &Seat) -> u64
-    ensures { result ≡ packed_of seat.now.row seat.now.section seat.now.number }
-{
-    (u64::from(seat.row) * 0x100 + u64::from(seat.section)) * 0x1_0000 + u64::from(seat.number)
 }

@@ -5,31 +5,31 @@ ghost use Rattle.keys.specs.Refusals.{number_of};
 #[derive(Clone, Copy, PartialEq, Eq, Debug)]
 pub enum Refusal {
     /// The link is new, and there are as many links as the map can hold.
-    LinksFull,
+    LinksFull = 1,
     /// The keys that are not in the map yet do not fit in its room for nodes.
-    NodesFull,
+    NodesFull = 2,
     /// The node is not in the map.
-    NodeAbsent,
+    NodeAbsent = 3,
     /// The link is not in the map.
-    LinkAbsent,
+    LinkAbsent = 4,
     /// The index is at or past the count of nodes.
-    PastCount,
+    PastCount = 5,
     /// The graph would have more nodes than its numbers can count.
-    GraphNodesFull,
+    GraphNodesFull = 6,
     /// The graph would have more links than its numbers can count.
-    GraphLinksFull,
+    GraphLinksFull = 7,
     /// The memory for the graph is too short.
-    GraphMemoryShort,
+    GraphMemoryShort = 8,
     /// An end of the link is past the graph's nodes.
-    EndPastNodes,
+    EndPastNodes = 9,
     /// The tape has a record of an unknown kind.
-    UnknownRecord,
+    UnknownRecord = 10,
     /// The tape ends inside a record.
-    RecordCut,
+    RecordCut = 11,
     /// The output does not fit in its memory.
-    NoRoom,
+    NoRoom = 12,
     /// The input is longer than can be read.
-    InputTooLong,
+    InputTooLong = 13,
 }
 
 impl Refusal {
@@ -37,20 +37,6 @@ impl Refusal {
     pub fn number(self) -> u8
         ensures { result ≡ number_of self }
     {
-        match self {
-            Refusal::LinksFull => 1,
-            Refusal::NodesFull => 2,
-            Refusal::NodeAbsent => 3,
-            Refusal::LinkAbsent => 4,
-            Refusal::PastCount => 5,
-            Refusal::GraphNodesFull => 6,
-            Refusal::GraphLinksFull => 7,
-            Refusal::GraphMemoryShort => 8,
-            Refusal::EndPastNodes => 9,
-            Refusal::UnknownRecord => 10,
-            Refusal::RecordCut => 11,
-            Refusal::NoRoom => 12,
-            Refusal::InputTooLong => 13,
-        }
+        self as u8
     }
 }

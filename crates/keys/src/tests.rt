@@ -1,6 +1,5 @@
 use crate::edges::*;
 use crate::nodes::*;
-use crate::order::*;
 use crate::refusals::*;
 use crate::weights::*;
 use std::cmp::Ordering;

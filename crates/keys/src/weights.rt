@@ -1,29 +1,27 @@
 ghost use Rattle.std.specs.Prelude.{◌≡◌};
+ghost use Rattle.std.proofs.Common.{rules};
 ghost use Rattle.keys.specs.Weights.{no_price, no_listing};
 
-/// What a link can carry: a value that has a default.
-pub trait Weight: Copy {
+/// What a link can carry: a value that has a default, the weight of a link that is given without one.
+pub trait Weight: Copy + Default {
     ghost defaulted: { Self };
 
-    /// The weight of a link that is given without one.
-    fn default_weight() -> Self
-        ensures { result ≡ defaulted };
+    // Nothing but that value is a default.
+    ghost sole: { (w : Self) → Self.is_default w → w ≡ defaulted };
 }
 
 /// A price in cents.
-#[derive(Clone, Copy, PartialEq, Eq, Debug)]
+#[derive(Clone, Copy, PartialEq, Eq, PartialOrd, Ord, Default, Debug)]
 pub struct Price(pub u32);
 
 impl Weight for Price {
     ghost defaulted = { no_price };
 
-    fn default_weight() -> Price {
-        Price(0)
-    }
+    ghost sole = { Prim.search rules };
 }
 
 /// A numbered offer with its price.
-#[derive(Clone, Copy, PartialEq, Eq, Debug)]
+#[derive(Clone, Copy, PartialEq, Eq, Default, Debug)]
 pub struct Listing {
     pub number: u32,
     pub price: Price,
@@ -32,10 +30,5 @@ pub struct Listing {
 impl Weight for Listing {
     ghost defaulted = { no_listing };
 
-    fn default_weight() -> Listing {
-        Listing {
-            number: 0,
-            price: Price::default_weight(),
-        }
-    }
+    ghost sole = { Prim.search rules };
 }

@@ -14,8 +14,3 @@ keys value order = record { value = value; order = order }
 -- whether two values are equal, as a test
 abbrev pub eq : {N V : Type 0} → Keys N V → V → V → Bool
 eq K x y = alike K.order x y
-
-abbrev pub is_after : Ordering → Bool
-is_after Less = false
-is_after Equal = false
-is_after Greater = true

@@ -1,10 +1,11 @@
 -- A link map as lists: the nodes, each with its row, and the links, each with its weight.
 use Rattle.std.specs.Prelude.{ℕ, ◌+◌, Bool, true, false, cond, not, ◌&&◌, List, [], ◌∷◌, ◌++◌, Some, None, Option}
+use Rattle.std.specs.Ordering.{is_gt}
 use Rattle.keys.specs.declared.kinds.Direction.{Direction}
 use Rattle.keys.specs.declared.kinds.Direction.TheVariants.{Outgoing, Incoming}
 use Rattle.keys.specs.declared.kinds.Kind.{Kind}
 use Rattle.keys.specs.declared.kinds.Kind.TheVariants.{Directed, Undirected}
-use Rattle.model.specs.Keys.{Keys, eq, is_after}
+use Rattle.model.specs.Keys.{Keys, eq}
 use Rattle.model.specs.Lists.{bit, some, found, without, amended}
 
 -- an entry of a row: the key of the other end, and the direction
@@ -46,12 +47,12 @@ module _ {N V : Type 0} (K : Keys N V) where
   -- the key of the link from a to b
   abbrev pub edge_key : Kind → N → N → N × N
   edge_key Directed a b = (a, b)
-  edge_key Undirected a b = cond (is_after (K.order (K.value a) (K.value b))) (b, a) (a, b)
+  edge_key Undirected a b = cond (is_gt (K.order (K.value a) (K.value b))) (b, a) (a, b)
 
   -- the value of that key, from the values of the two ends
   abbrev pub canon : Kind → V → V → V × V
   canon Directed x y = (x, y)
-  canon Undirected x y = cond (is_after (K.order x y)) (y, x) (x, y)
+  canon Undirected x y = cond (is_gt (K.order x y)) (y, x) (x, y)
 
   -- the same for the link that an entry of v's row stands for: from v to m, or from m to v
   abbrev pub along : Kind → V → V → Direction → V × V

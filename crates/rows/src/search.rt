@@ -9,13 +9,13 @@ ghost use Rattle.rows.specs.HalfEdges.{side};
 use crate::cells::{Cell, RowHead};
 use crate::sides::{agrees, side_of};
 use keys::kinds::{Direction, Kind};
-use keys::order::{NodeTrait, same};
+use keys::nodes::NodeTrait;
 
 // Whether the cell `x` names `m` in the direction `t`.
 fn names<N: NodeTrait>(cell: &Cell<N>, x: u32, kind: Kind, m: &N, t: Direction) -> bool
-    ensures { result ≡ hits (keys N.Compare.value N.Compare.order) kind (N.Compare.value m.now) t (cell.now.key, side x) }
+    ensures { result ≡ hits (keys N.value N.order) kind (N.value m.now) t (cell.now.key, side x) }
 {
-    same(&cell.key, m) && agrees(kind, side_of(x), t)
+    cell.key == *m && agrees(kind, side_of(x), t)
 }
 
 /// The first cell of the row that names `m` in the direction `t`.
@@ -28,7 +28,7 @@ pub fn search<N: NodeTrait>(
 ) -> Option<u32>
     requires small { length cells.now ≤ none }
     requires linked { Linked cells.now row }
-    ensures { (d : N) → result ≡ found (λ x. hits (keys N.Compare.value N.Compare.order) kind (N.Compare.value m.now) t (slice_index_or (cell_keys cells.now) x d, side x)) (listed cells.now row) }
+    ensures { (d : N) → result ≡ found (λ x. hits (keys N.value N.order) kind (N.value m.now) t (slice_index_or (cell_keys cells.now) x d, side x)) (listed cells.now row) }
 {
     let mut x = row.first;
     let mut left = row.len;

@@ -8,7 +8,7 @@ ghost use Rattle.rows.specs.Walks.{walk_of, upcoming, first_of};
 use crate::cells::{Cell, RowHead};
 use crate::sides::{agrees, side_of};
 use keys::kinds::{Direction, Kind};
-use keys::order::{NodeTrait, same};
+use keys::nodes::NodeTrait;
 
 /// How far a walk along a row has come: the cell that is next, and how many cells are left.
 #[derive(Clone, Copy)]
@@ -31,9 +31,9 @@ impl Walk {
 
 // Whether the direction `d` shows the entry of the cell `x` in the row of `n`.
 fn shows<N: NodeTrait>(cell: &Cell<N>, x: u32, kind: Kind, d: Direction, n: &N) -> bool
-    ensures { result ≡ shown (keys N.Compare.value N.Compare.order) kind d (N.Compare.value n.now) (cell.now.key, side x) }
+    ensures { result ≡ shown (keys N.value N.order) kind d (N.value n.now) (cell.now.key, side x) }
 {
-    agrees(kind, side_of(x), d) || same(&cell.key, n)
+    agrees(kind, side_of(x), d) || cell.key == *n
 }
 
 /// The next cell of the walk whose entry the direction `d` shows, where the row is that of `n`. The
@@ -45,7 +45,7 @@ pub fn advance<N: NodeTrait>(
     n: &N,
     walk: &mut Walk,
 ) -> Option<u32>
-    ensures { (e : N) → (result, upcoming (keys N.Compare.value N.Compare.order) e cells.now kind d (N.Compare.value n.now) walk.new) ≡ first_of (upcoming (keys N.Compare.value N.Compare.order) e cells.now kind d (N.Compare.value n.now) walk.old) }
+    ensures { (e : N) → (result, upcoming (keys N.value N.order) e cells.now kind d (N.value n.now) walk.new) ≡ first_of (upcoming (keys N.value N.order) e cells.now kind d (N.value n.now) walk.old) }
 {
     while walk.left > 0 && (walk.at as usize) < cells.len() {
         let x = walk.at;
@@ -68,7 +68,7 @@ pub fn nth_cell<N: NodeTrait>(
     mut walk: Walk,
     k: usize,
 ) -> Option<u32>
-    ensures { (e : N) → result ≡ slice_get (upcoming (keys N.Compare.value N.Compare.order) e cells.now kind d (N.Compare.value n.now) walk) k }
+    ensures { (e : N) → result ≡ slice_get (upcoming (keys N.value N.order) e cells.now kind d (N.value n.now) walk) k }
 {
     for _ in 0..k {
         advance(cells, kind, d, n, &mut walk)?;

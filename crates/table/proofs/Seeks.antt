@@ -2,7 +2,8 @@
 use Rattle.std.proofs.Common.{◌≡◌, ℕ, ◌<◌, ◌≤◌, true, false, List, [], ◌∷◌, map, length, get_or, take, Some, None, Ok, Err, Option, Ordering, sym, refl, ap, ◌∙◌, inl, inr, arith}
 use Rattle.std.proofs.lemmas.List.{length-take-le, length-map, get_or-take, get_or-map}
 use Rattle.std.proofs.lemmas.Bool.{cases_lt, cases_Bool, both_ways}
-use Rattle.keys.specs.Order.{Laws, is_equal, alike}
+use Rattle.std.specs.Ordering.{is_eq}
+use Rattle.keys.specs.Order.{Laws, alike}
 use Rattle.keys.specs.Laws.{equal_from}
 use Rattle.lists.specs.Latest.{latest}
 use Rattle.lists.proofs.Latest.{latest_covers}
@@ -68,7 +69,7 @@ module _ {W : Type 0} (order : W → W → Ordering) (laws : Laws order) where
   alike_same a b e = laws.equal_same a b (equal_from (order a b) e)
 
   pub same_alike : (a b : W) → a ≡ b → alike order a b ≡ true
-  same_alike a b e = ap (alike order a) (sym e) ∙ ap is_equal (laws.same_equal a)
+  same_alike a b e = ap (alike order a) (sym e) ∙ ap is_eq (laws.same_equal a)
 
   pub not_alike : (a b : W) → (a ≡ b → ⊥) → alike order a b ≡ false
   not_alike a b ne = elim (cases_Bool (alike order a b)) [ inl t ↦ absurd (ne (alike_same a b t)) | inr f ↦ f ]

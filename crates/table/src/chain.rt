@@ -4,15 +4,15 @@ ghost use Rattle.table.specs.Slots.{pairs, nexts, headed, marked, at, two};
 ghost use Rattle.table.specs.Index.{capacity_of, bucket_of, held, Chained, ChainedOff, ChainedBut};
 
 use crate::slot::{NONE, Slot, head_of, next_of, set_head, set_next};
-use keys::order::NodeTrait;
+use keys::nodes::NodeTrait;
 
 // The smallest place past `g` in bucket `b`, or `n`: what holds the link to `g`, or would.
 fn above<K: NodeTrait, V: Copy>(slots: &[Slot<K, V>], n: usize, b: usize, g: usize) -> usize
-    requires chained { ChainedBut K.NodeTrait.hashed slots.now n g }
+    requires chained { ChainedBut K.hashed slots.now n g }
     requires small { n ≤ capacity_of slots.now }
     requires bucket { b < 2 * capacity_of slots.now }
     requires place { g < n }
-    ensures { Above n (bucket_of K.NodeTrait.hashed slots.now) b g result }
+    ensures { Above n (bucket_of K.hashed slots.now) b g result }
 {
     let mut p = n;
     let mut link = head_of(slots, b);
@@ -57,12 +57,12 @@ fn holds<K: Copy, V: Copy>(slots: &[Slot<K, V>], n: usize, b: usize, p: usize) -
 
 // Takes place `g` out of its bucket `b`.
 pub(crate) fn unlink<K: NodeTrait, V: Copy>(slots: &mut [Slot<K, V>], n: usize, b: usize, g: usize)
-    requires chained { Chained K.NodeTrait.hashed slots.old n }
+    requires chained { Chained K.hashed slots.old n }
     requires small { n ≤ capacity_of slots.old }
     requires bucket { b < 2 * capacity_of slots.old }
     requires place { g < n }
-    requires home { bucket_of K.NodeTrait.hashed slots.old g ≡ b }
-    ensures chained { ChainedOff K.NodeTrait.hashed slots.new n g }
+    requires home { bucket_of K.hashed slots.old g ≡ b }
+    ensures chained { ChainedOff K.hashed slots.new n g }
     ensures marks { marked slots.new ≡ marked slots.old }
     ensures pair { pairs slots.new ≡ pairs slots.old }
 {
@@ -73,12 +73,12 @@ pub(crate) fn unlink<K: NodeTrait, V: Copy>(slots: &mut [Slot<K, V>], n: usize, 
 
 // Puts place `g`, which is in no chain, into that of its bucket `b`.
 pub(crate) fn link<K: NodeTrait, V: Copy>(slots: &mut [Slot<K, V>], n: usize, b: usize, g: usize)
-    requires chained { ChainedOff K.NodeTrait.hashed slots.old n g }
+    requires chained { ChainedOff K.hashed slots.old n g }
     requires small { n ≤ capacity_of slots.old }
     requires bucket { b < 2 * capacity_of slots.old }
     requires place { g < n }
-    requires home { bucket_of K.NodeTrait.hashed slots.old g ≡ b }
-    ensures chained { Chained K.NodeTrait.hashed slots.new n }
+    requires home { bucket_of K.hashed slots.old g ≡ b }
+    ensures chained { Chained K.hashed slots.new n }
     ensures marks { marked slots.new ≡ marked slots.old }
     ensures pair { pairs slots.new ≡ pairs slots.old }
 {

@@ -11,7 +11,7 @@ use crate::slot::{
     vacate, value_of,
 };
 use crate::table::Vacancy;
-use keys::order::{Compare, NodeTrait, same};
+use keys::nodes::NodeTrait;
 
 // At most as many entries as a link can name.
 pub(crate) fn capacity_of<K: Copy, V: Copy>(slots: &[Slot<K, V>]) -> usize
@@ -38,7 +38,7 @@ fn mark_of(hash: u64) -> u8
 // The bucket of the key at place `i`.
 fn home_at<K: NodeTrait, V: Copy>(slots: &[Slot<K, V>], i: usize) -> usize
     requires { i < capacity_of slots.now }
-    ensures home { result ≡ bucket_of K.NodeTrait.hashed slots.now i }
+    ensures home { result ≡ bucket_of K.hashed slots.now i }
     ensures below { result < 2 * capacity_of slots.now }
 {
     home_of(key_of(slots, i).hash(), capacity_of(slots))
@@ -57,7 +57,7 @@ pub(crate) fn reset<K: Copy, V: Copy>(slots: &mut [Slot<K, V>])
 // Empties the buckets of the first `len` places.
 pub(crate) fn release<K: NodeTrait, V: Copy>(slots: &mut [Slot<K, V>], len: usize)
     requires fits { len ≤ capacity_of slots.old }
-    requires chained { Chained K.NodeTrait.hashed slots.old len }
+    requires chained { Chained K.hashed slots.old len }
     ensures { (b : ℕ) → b < 2 * capacity_of slots.new → two (headed slots.new) b ≡ none }
 {
     for i in 0..len {
@@ -70,14 +70,14 @@ pub(crate) fn release<K: NodeTrait, V: Copy>(slots: &mut [Slot<K, V>], len: usiz
 // The place of the key with `k`'s value, by the chain of its bucket `b`.
 fn trace<K: NodeTrait, V: Copy>(slots: &[Slot<K, V>], len: usize, k: &K, b: usize) -> Option<usize>
     requires fits { len ≤ capacity_of slots.now }
-    requires chained { Chained K.NodeTrait.hashed slots.now len }
+    requires chained { Chained K.hashed slots.now len }
     requires bucket { b < 2 * capacity_of slots.now }
-    requires hashed { (j : K) → K.Compare.value j ≡ K.Compare.value k.now → home (capacity_of slots.now) (K.NodeTrait.hashed j) ≡ b }
-    ensures { MatchOption result (Absent K.Compare.value (take len (pairs slots.now)) k.now) (Present K.Compare.value (take len (pairs slots.now)) k.now) }
+    requires hashed { (j : K) → K.value j ≡ K.value k.now → home (capacity_of slots.now) (K.hashed j) ≡ b }
+    ensures { MatchOption result (Absent K.value (take len (pairs slots.now)) k.now) (Present K.value (take len (pairs slots.now)) k.now) }
 {
     let mut link = head_of(slots, b);
     while link != NONE {
-        if same(&slots[link].key, k) {
+        if slots[link].key == *k {
             return Some(link);
         }
         link = next_of(slots, link);
@@ -93,11 +93,11 @@ pub(crate) fn seek<K: NodeTrait, V: Copy>(
     w: Vacancy,
 ) -> Option<usize>
     requires fits { len ≤ capacity_of slots.now }
-    requires chained { Chained K.NodeTrait.hashed slots.now len }
-    requires marks { Marked K.NodeTrait.hashed slots.now len }
+    requires chained { Chained K.hashed slots.now len }
+    requires marks { Marked K.hashed slots.now len }
     requires bucket { w.home < 2 * capacity_of slots.now }
-    requires hashed { (j : K) → K.Compare.value j ≡ K.Compare.value k.now → vacancy (capacity_of slots.now) (K.NodeTrait.hashed j) ≡ w }
-    ensures { MatchOption result (Absent K.Compare.value (take len (pairs slots.now)) k.now) (Present K.Compare.value (take len (pairs slots.now)) k.now) }
+    requires hashed { (j : K) → K.value j ≡ K.value k.now → vacancy (capacity_of slots.now) (K.hashed j) ≡ w }
+    ensures { MatchOption result (Absent K.value (take len (pairs slots.now)) k.now) (Present K.value (take len (pairs slots.now)) k.now) }
 {
     if (marks_of(slots, w.home) >> w.mark) % 2 == 0 {
         return None;
@@ -114,12 +114,12 @@ pub(crate) fn enter<K: NodeTrait, V: Copy>(
     w: Vacancy,
 )
     requires fits { len < capacity_of slots.old }
-    requires chained { Chained K.NodeTrait.hashed slots.old len }
-    requires marks { Marked K.NodeTrait.hashed slots.old len }
+    requires chained { Chained K.hashed slots.old len }
+    requires marks { Marked K.hashed slots.old len }
     requires bucket { w.home < 2 * capacity_of slots.old }
-    requires hashed { w ≡ vacancy (capacity_of slots.old) (K.NodeTrait.hashed k) }
-    ensures chained { Chained K.NodeTrait.hashed slots.new (len + 1) }
-    ensures marks { Marked K.NodeTrait.hashed slots.new (len + 1) }
+    requires hashed { w ≡ vacancy (capacity_of slots.old) (K.hashed k) }
+    ensures chained { Chained K.hashed slots.new (len + 1) }
+    ensures marks { Marked K.hashed slots.new (len + 1) }
     ensures pair { pairs slots.new ≡ slice_set (pairs slots.old) len (k, v) }
 {
     set_pair(slots, len, k, v);
@@ -134,9 +134,9 @@ pub(crate) fn enter<K: NodeTrait, V: Copy>(
 fn detach<K: NodeTrait, V: Copy>(slots: &mut [Slot<K, V>], last: usize, b: usize)
     requires fits { last < capacity_of slots.old }
     requires bucket { b < 2 * capacity_of slots.old }
-    requires home { bucket_of K.NodeTrait.hashed slots.old last ≡ b }
-    requires chained { Chained K.NodeTrait.hashed slots.old (last + 1) }
-    ensures chained { Chained K.NodeTrait.hashed slots.new last }
+    requires home { bucket_of K.hashed slots.old last ≡ b }
+    requires chained { Chained K.hashed slots.old (last + 1) }
+    ensures chained { Chained K.hashed slots.new last }
     ensures marks { marked slots.new ≡ marked slots.old }
     ensures pair { pairs slots.new ≡ pairs slots.old }
 {
@@ -154,12 +154,12 @@ fn relocate<K: NodeTrait, V: Copy>(
 )
     requires fits { last < capacity_of slots.old }
     requires bucket { b < 2 * capacity_of slots.old }
-    requires home { bucket_of K.NodeTrait.hashed slots.old last ≡ b }
+    requires home { bucket_of K.hashed slots.old last ≡ b }
     requires place { g < last }
     requires old_bucket { gone < 2 * capacity_of slots.old }
-    requires old_home { bucket_of K.NodeTrait.hashed slots.old g ≡ gone }
-    requires chained { Chained K.NodeTrait.hashed slots.old last }
-    ensures chained { Chained K.NodeTrait.hashed slots.new last }
+    requires old_home { bucket_of K.hashed slots.old g ≡ gone }
+    requires chained { Chained K.hashed slots.old last }
+    ensures chained { Chained K.hashed slots.new last }
     ensures marks { marked slots.new ≡ marked slots.old }
     ensures pair { (d : K × V) → pairs slots.new ≡ slice_set (pairs slots.old) g (slice_index_or (pairs slots.old) last d) }
 {
@@ -174,10 +174,10 @@ fn relocate<K: NodeTrait, V: Copy>(
 fn tidy<K: NodeTrait, V: Copy>(slots: &mut [Slot<K, V>], n: usize, b: usize)
     requires fits { n ≤ capacity_of slots.old }
     requires bucket { b < 2 * capacity_of slots.old }
-    requires chained { Chained K.NodeTrait.hashed slots.old n }
-    requires marks { Marked K.NodeTrait.hashed slots.old n }
-    ensures chained { Chained K.NodeTrait.hashed slots.new n }
-    ensures marks { Marked K.NodeTrait.hashed slots.new n }
+    requires chained { Chained K.hashed slots.old n }
+    requires marks { Marked K.hashed slots.old n }
+    ensures chained { Chained K.hashed slots.new n }
+    ensures marks { Marked K.hashed slots.new n }
     ensures pair { pairs slots.new ≡ pairs slots.old }
 {
     if head_of(slots, b) == NONE {
@@ -189,10 +189,10 @@ fn tidy<K: NodeTrait, V: Copy>(slots: &mut [Slot<K, V>], n: usize, b: usize)
 pub(crate) fn extract<K: NodeTrait, V: Copy>(slots: &mut [Slot<K, V>], len: usize, g: usize)
     requires fits { len ≤ capacity_of slots.old }
     requires place { g < len }
-    requires chained { Chained K.NodeTrait.hashed slots.old len }
-    requires marks { Marked K.NodeTrait.hashed slots.old len }
-    ensures chained { Chained K.NodeTrait.hashed slots.new (len - 1) }
-    ensures marks { Marked K.NodeTrait.hashed slots.new (len - 1) }
+    requires chained { Chained K.hashed slots.old len }
+    requires marks { Marked K.hashed slots.old len }
+    ensures chained { Chained K.hashed slots.new (len - 1) }
+    ensures marks { Marked K.hashed slots.new (len - 1) }
     ensures entries { take (len - 1) (pairs slots.new) ≡ swap_removed (take len (pairs slots.old)) g }
 {
     let last = len - 1;

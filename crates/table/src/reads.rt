@@ -4,12 +4,12 @@ ghost use Rattle.table.specs.Tables.{Sound, entries, capacity};
 use crate::index::capacity_of;
 use crate::slot::{key_of, value_of};
 use crate::table::Table;
-use keys::order::{Compare, NodeTrait};
+use keys::nodes::NodeTrait;
 
 impl<'a, K: NodeTrait, V: Copy> Table<'a, K, V> {
     /// How many entries there are.
     pub fn len(&self) -> usize
-        requires sound { Sound K.Compare.value K.NodeTrait.hashed self.now }
+        requires sound { Sound K.value K.hashed self.now }
         ensures { result ≡ length (entries self.now) }
     {
         self.len
@@ -24,7 +24,7 @@ impl<'a, K: NodeTrait, V: Copy> Table<'a, K, V> {
 
     /// The key at a place.
     pub fn key_at(&self, i: usize) -> K
-        requires sound { Sound K.Compare.value K.NodeTrait.hashed self.now }
+        requires sound { Sound K.value K.hashed self.now }
         requires place { i < length (entries self.now) }
         ensures { (d : K × V) → result ≡ (slice_index_or (entries self.now) i d).0 }
     {
@@ -33,7 +33,7 @@ impl<'a, K: NodeTrait, V: Copy> Table<'a, K, V> {
 
     /// The value at a place.
     pub fn value_at(&self, i: usize) -> V
-        requires sound { Sound K.Compare.value K.NodeTrait.hashed self.now }
+        requires sound { Sound K.value K.hashed self.now }
         requires place { i < length (entries self.now) }
         ensures { (d : K × V) → result ≡ (slice_index_or (entries self.now) i d).1 }
     {

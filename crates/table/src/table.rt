@@ -3,7 +3,7 @@ ghost use Rattle.table.specs.Tables.{Sound, entries, capacity, sought, appended,
 
 use crate::index::{enter, extract, release, reset, seek, vacancy_of};
 use crate::slot::{Slot, set_pair};
-use keys::order::{Compare, NodeTrait};
+use keys::nodes::NodeTrait;
 
 /// A hash table over a lent memory: a list of entries whose keys differ by value.
 #[derive(Drop)]
@@ -30,7 +30,7 @@ pub struct Taken<K, V> {
 impl<'a, K: NodeTrait, V: Copy> Table<'a, K, V> {
     /// An empty table over a memory of any length; what the memory holds does not count.
     pub fn new(slots: &'a mut [Slot<K, V>]) -> Self
-        ensures sound { Sound K.Compare.value K.NodeTrait.hashed result }
+        ensures sound { Sound K.value K.hashed result }
         ensures entries { entries result ≡ [] }
         ensures room { capacity result ≡ min (length slots.old) 65535 }
     {
@@ -40,8 +40,8 @@ impl<'a, K: NodeTrait, V: Copy> Table<'a, K, V> {
 
     /// The place of the entry whose key has `k`'s value, or where such a key would go.
     pub fn find(&self, k: &K) -> Result<usize, Vacancy>
-        requires sound { Sound K.Compare.value K.NodeTrait.hashed self.now }
-        ensures { result ≡ sought K.Compare.order K.Compare.value K.NodeTrait.hashed (capacity self.now) (entries self.now) k.now }
+        requires sound { Sound K.value K.hashed self.now }
+        ensures { result ≡ sought K.order K.value K.hashed (capacity self.now) (entries self.now) k.now }
     {
         let w = vacancy_of(k.hash(), self.capacity());
         if self.len == 0 {
@@ -55,8 +55,8 @@ impl<'a, K: NodeTrait, V: Copy> Table<'a, K, V> {
 
     /// Puts another value at a place, and answers the old one. None where there is no such place.
     pub fn set_value(&mut self, i: usize, v: V) -> Option<V>
-        requires sound { Sound K.Compare.value K.NodeTrait.hashed self.old }
-        ensures sound { Sound K.Compare.value K.NodeTrait.hashed self.new }
+        requires sound { Sound K.value K.hashed self.old }
+        ensures sound { Sound K.value K.hashed self.new }
         ensures done { (result, entries self.new) ≡ replaced (entries self.old) i v }
         ensures room { capacity self.new ≡ capacity self.old }
     {
@@ -72,9 +72,9 @@ impl<'a, K: NodeTrait, V: Copy> Table<'a, K, V> {
     /// Puts an entry at the end and answers its place. None where there is no room.
     /// `w` is what the search for the key answered.
     pub fn append(&mut self, k: K, v: V, w: Vacancy) -> Option<usize>
-        requires sound { Sound K.Compare.value K.NodeTrait.hashed self.old }
-        requires absent { sought K.Compare.order K.Compare.value K.NodeTrait.hashed (capacity self.old) (entries self.old) k ≡ Vacant w }
-        ensures sound { Sound K.Compare.value K.NodeTrait.hashed self.new }
+        requires sound { Sound K.value K.hashed self.old }
+        requires absent { sought K.order K.value K.hashed (capacity self.old) (entries self.old) k ≡ Vacant w }
+        ensures sound { Sound K.value K.hashed self.new }
         ensures done { (result, entries self.new) ≡ appended (capacity self.old) (entries self.old) (k, v) }
         ensures room { capacity self.new ≡ capacity self.old }
     {
@@ -90,8 +90,8 @@ impl<'a, K: NodeTrait, V: Copy> Table<'a, K, V> {
     /// Takes the entry at a place out, puts the last entry there, and answers what was taken.
     /// None where there is no such place.
     pub fn swap_remove(&mut self, i: usize) -> Option<Taken<K, V>>
-        requires sound { Sound K.Compare.value K.NodeTrait.hashed self.old }
-        ensures sound { Sound K.Compare.value K.NodeTrait.hashed self.new }
+        requires sound { Sound K.value K.hashed self.old }
+        ensures sound { Sound K.value K.hashed self.new }
         ensures done { (result, entries self.new) ≡ taken (entries self.old) i }
         ensures room { capacity self.new ≡ capacity self.old }
     {
@@ -112,8 +112,8 @@ impl<'a, K: NodeTrait, V: Copy> Table<'a, K, V> {
 
     /// Takes every entry out.
     pub fn clear(&mut self)
-        requires sound { Sound K.Compare.value K.NodeTrait.hashed self.old }
-        ensures sound { Sound K.Compare.value K.NodeTrait.hashed self.new }
+        requires sound { Sound K.value K.hashed self.old }
+        ensures sound { Sound K.value K.hashed self.new }
         ensures entries { entries self.new ≡ [] }
         ensures room { capacity self.new ≡ capacity self.old }
     {

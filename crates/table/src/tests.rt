@@ -6,7 +6,6 @@ use crate::reads::*;
 use crate::slot::*;
 use crate::table::*;
 use keys::nodes::*;
-use keys::order::*;
 use keys::weights::*;
 use std::cmp::Ordering;
 use std::test::Fail;

@@ -4,7 +4,7 @@ ghost use Rattle.model.specs.Questions.{ends};
 ghost use Rattle.walks.specs.Walks.{SoundLinks, edge_of};
 
 use keys::kinds::Direction;
-use keys::order::{Compare, NodeTrait};
+use keys::nodes::NodeTrait;
 use model::edge::Edge;
 use rows::cells::Cell;
 use table::table::Table;
@@ -28,7 +28,7 @@ pub(crate) fn edge_at<N: NodeTrait, E: Copy>(
     d: Direction,
     c: u32,
 ) -> Option<Edge<N, E>>
-    requires sound { SoundLinks N.Compare.value N.NodeTrait.hashed links.now }
+    requires sound { SoundLinks N.value N.hashed links.now }
     requires within { c < length cells.now }
     ensures { (e : N) → result ≡ edge_of e cells.now (entries links.now) (n, d) c }
 {

@@ -9,7 +9,7 @@ ghost use Rattle.walks.specs.Walks.{SoundLinks, first_by, origin, coming, key_of
 use crate::heads::row_of;
 use crate::links::edge_at;
 use keys::kinds::{Direction, Kind};
-use keys::order::{Compare, NodeTrait};
+use keys::nodes::NodeTrait;
 use model::edge::Edge;
 use rows::cells::{Cell, RowHead};
 use rows::walk::{Walk, advance};
@@ -33,10 +33,10 @@ pub fn neighbors_from<N: NodeTrait, E: Copy>(
     n: N,
     d: Direction,
 ) -> Neighbors<N>
-    requires sound { Sound N.Compare.value N.Compare.order N.NodeTrait.hashed kind nodes.now links.now cells.now }
+    requires sound { Sound N.value N.order N.hashed kind nodes.now links.now cells.now }
     ensures origin { origin result ≡ (n, d) }
-    ensures neighbors { (e : N) → map (key_of e cells.now) (coming (keys N.Compare.value N.Compare.order) e cells.now kind result) ≡ neighbor_list (keys N.Compare.value N.Compare.order) n d (state_of kind nodes.now links.now cells.now) }
-    ensures edges { (e : N) → map (edge_of e cells.now (entries links.now) (n, d)) (coming (keys N.Compare.value N.Compare.order) e cells.now kind result) ≡ map Present (edge_list (keys N.Compare.value N.Compare.order) n d (state_of kind nodes.now links.now cells.now)) }
+    ensures neighbors { (e : N) → map (key_of e cells.now) (coming (keys N.value N.order) e cells.now kind result) ≡ neighbor_list (keys N.value N.order) n d (state_of kind nodes.now links.now cells.now) }
+    ensures edges { (e : N) → map (edge_of e cells.now (entries links.now) (n, d)) (coming (keys N.value N.order) e cells.now kind result) ≡ map Present (edge_list (keys N.value N.order) n d (state_of kind nodes.now links.now cells.now)) }
 {
     Neighbors {
         start: n,
@@ -48,7 +48,7 @@ pub fn neighbors_from<N: NodeTrait, E: Copy>(
 // The next cell of the walk.
 fn next_cell<N: NodeTrait>(kind: Kind, cells: &[Cell<N>], w: &mut Neighbors<N>) -> Option<u32>
     ensures origin { origin w.new ≡ origin w.old }
-    ensures next { (e : N) → (result, coming (keys N.Compare.value N.Compare.order) e cells.now kind w.new) ≡ first_of (coming (keys N.Compare.value N.Compare.order) e cells.now kind w.old) }
+    ensures next { (e : N) → (result, coming (keys N.value N.order) e cells.now kind w.new) ≡ first_of (coming (keys N.value N.order) e cells.now kind w.old) }
     ensures within { (c : ℕ) → result ≡ Present c → c < length cells.now }
 {
     advance(cells, kind, w.direction, &w.start, &mut w.walk)
@@ -57,7 +57,7 @@ fn next_cell<N: NodeTrait>(kind: Kind, cells: &[Cell<N>], w: &mut Neighbors<N>) 
 /// The next neighbour of the walk.
 pub fn next_neighbor<N: NodeTrait>(kind: Kind, cells: &[Cell<N>], w: &mut Neighbors<N>) -> Option<N>
     ensures origin { origin w.new ≡ origin w.old }
-    ensures next { (e : N) → (result, coming (keys N.Compare.value N.Compare.order) e cells.now kind w.new) ≡ first_by (λ c. Present (key_of e cells.now c)) (coming (keys N.Compare.value N.Compare.order) e cells.now kind w.old) }
+    ensures next { (e : N) → (result, coming (keys N.value N.order) e cells.now kind w.new) ≡ first_by (λ c. Present (key_of e cells.now c)) (coming (keys N.value N.order) e cells.now kind w.old) }
 {
     let c = next_cell(kind, cells, w)?;
     Some(cells[c as usize].key)
@@ -70,9 +70,9 @@ pub fn next_edge<N: NodeTrait, E: Copy>(
     cells: &[Cell<N>],
     w: &mut Neighbors<N>,
 ) -> Option<Edge<N, E>>
-    requires sound { SoundLinks N.Compare.value N.NodeTrait.hashed links.now }
+    requires sound { SoundLinks N.value N.hashed links.now }
     ensures origin { origin w.new ≡ origin w.old }
-    ensures next { (e : N) → (result, coming (keys N.Compare.value N.Compare.order) e cells.now kind w.new) ≡ first_by (edge_of e cells.now (entries links.now) (origin w.old)) (coming (keys N.Compare.value N.Compare.order) e cells.now kind w.old) }
+    ensures next { (e : N) → (result, coming (keys N.value N.order) e cells.now kind w.new) ≡ first_by (edge_of e cells.now (entries links.now) (origin w.old)) (coming (keys N.value N.order) e cells.now kind w.old) }
 {
     let c = next_cell(kind, cells, w)?;
     edge_at(links, cells, w.start, w.direction, c)

@@ -11,7 +11,7 @@ ghost use Rattle.walks.specs.Heads.{row_of};
 use crate::heads::{head_of, row_of};
 use crate::links::edge_at;
 use keys::kinds::{Direction, Kind};
-use keys::order::{Compare, NodeTrait};
+use keys::nodes::NodeTrait;
 use model::edge::Edge;
 use rows::cells::{Cell, RowHead};
 use rows::sides::side_of;
@@ -27,8 +27,8 @@ fn cell_at<N: NodeTrait>(
     d: Direction,
     k: usize,
 ) -> Option<u32>
-    requires sound { SoundTable N.Compare.value N.NodeTrait.hashed nodes.now }
-    ensures cell { (e : N) → result ≡ slice_get (upcoming (keys N.Compare.value N.Compare.order) e cells.now kind d (N.Compare.value n.now) (walk_of (row_of (keys N.Compare.value N.Compare.order) (N.Compare.value n.now) (entries nodes.now)))) k }
+    requires sound { SoundTable N.value N.hashed nodes.now }
+    ensures cell { (e : N) → result ≡ slice_get (upcoming (keys N.value N.order) e cells.now kind d (N.value n.now) (walk_of (row_of (keys N.value N.order) (N.value n.now) (entries nodes.now)))) k }
     ensures within { (c : ℕ) → result ≡ Present c → c < length cells.now }
 {
     nth_cell(cells, kind, d, n, Walk::of(row_of(nodes, n)), k)
@@ -42,8 +42,8 @@ pub fn degree<N: NodeTrait, E: Copy>(
     cells: &[Cell<N>],
     n: N,
 ) -> Option<usize>
-    requires sound { Sound N.Compare.value N.Compare.order N.NodeTrait.hashed kind nodes.now links.now cells.now }
-    ensures { result ≡ degree_of (keys N.Compare.value N.Compare.order) n (state_of kind nodes.now links.now cells.now) }
+    requires sound { Sound N.value N.order N.hashed kind nodes.now links.now cells.now }
+    ensures { result ≡ degree_of (keys N.value N.order) n (state_of kind nodes.now links.now cells.now) }
 {
     let row = head_of(nodes, &n)?;
     Some(row.len())
@@ -59,8 +59,8 @@ pub fn row_entry<N: NodeTrait, E: Copy>(
     n: N,
     k: usize,
 ) -> Option<(N, Direction)>
-    requires sound { Sound N.Compare.value N.Compare.order N.NodeTrait.hashed kind nodes.now links.now cells.now }
-    ensures { result ≡ slice_get (row_list (keys N.Compare.value N.Compare.order) n (state_of kind nodes.now links.now cells.now)) k }
+    requires sound { Sound N.value N.order N.hashed kind nodes.now links.now cells.now }
+    ensures { result ≡ slice_get (row_list (keys N.value N.order) n (state_of kind nodes.now links.now cells.now)) k }
 {
     // as in an Undirected map, where any direction shows every entry
     let c = cell_at(Kind::Undirected, nodes, cells, &n, Direction::Outgoing, k)?;
@@ -77,8 +77,8 @@ pub fn neighbor<N: NodeTrait, E: Copy>(
     d: Direction,
     k: usize,
 ) -> Option<N>
-    requires sound { Sound N.Compare.value N.Compare.order N.NodeTrait.hashed kind nodes.now links.now cells.now }
-    ensures { result ≡ slice_get (neighbor_list (keys N.Compare.value N.Compare.order) n d (state_of kind nodes.now links.now cells.now)) k }
+    requires sound { Sound N.value N.order N.hashed kind nodes.now links.now cells.now }
+    ensures { result ≡ slice_get (neighbor_list (keys N.value N.order) n d (state_of kind nodes.now links.now cells.now)) k }
 {
     let c = cell_at(kind, nodes, cells, &n, d, k)?;
     Some(cells[c as usize].key)
@@ -95,8 +95,8 @@ pub fn edge<N: NodeTrait, E: Copy>(
     d: Direction,
     k: usize,
 ) -> Option<Edge<N, E>>
-    requires sound { Sound N.Compare.value N.Compare.order N.NodeTrait.hashed kind nodes.now links.now cells.now }
-    ensures { result ≡ slice_get (edge_list (keys N.Compare.value N.Compare.order) n d (state_of kind nodes.now links.now cells.now)) k }
+    requires sound { Sound N.value N.order N.hashed kind nodes.now links.now cells.now }
+    ensures { result ≡ slice_get (edge_list (keys N.value N.order) n d (state_of kind nodes.now links.now cells.now)) k }
 {
     let c = cell_at(kind, nodes, cells, &n, d, k)?;
     edge_at(links, cells, n, d, c)

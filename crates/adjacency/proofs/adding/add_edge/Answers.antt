@@ -17,7 +17,7 @@ use Rattle.adjacency.proofs.adding.add_edge.Goals as goal
 
 pub returns-in-Ok : goal.returns-in-Ok
 returns-in-Ok g c =
-    let K = keys g.N.Compare.value g.N.Compare.order in
+    let K = keys g.N.NodeTrait.value g.N.NodeTrait.order in
     let k = c.args.kind in
     let a = c.args.a in
     let b = c.args.b in
@@ -52,7 +52,7 @@ returns-in-Ok g c =
 
 pub add_new-requires : goal.add_new-requires
 add_new-requires g c =
-    let K = keys g.N.Compare.value g.N.Compare.order in
+    let K = keys g.N.NodeTrait.value g.N.NodeTrait.order in
     record {
       sound = c.requires.sound;
       absent = ap (λ q. Rattle.table.specs.Tables.sought (Rattle.keys.specs.Nodes.by_both K.order K.order) (Rattle.model.proofs.Ends.values K) (λ (q : g.row.N.Denot × g.row.N.Denot). Rattle.keys.specs.Hashes.pair_hash (g.N.NodeTrait.hashed q.0) (g.N.NodeTrait.hashed q.1)) (capacity c.args.links.now) (entries c.args.links.now) q) (sym c.edge_key.ensures) ∙ sym c.find.ensures ∙ c.in-Err.is;
@@ -60,7 +60,7 @@ add_new-requires g c =
 
 pub returns-in-Err : goal.returns-in-Err
 returns-in-Err g c =
-    let K = keys g.N.Compare.value g.N.Compare.order in
+    let K = keys g.N.NodeTrait.value g.N.NodeTrait.order in
     let k = c.args.kind in
     let a = c.args.a in
     let b = c.args.b in

@@ -29,7 +29,7 @@ overflow_sub-capacity g c =
 
 pub returns-then-capacity-len : goal.returns-then-capacity-len
 returns-then-capacity-len g c =
-    let K = keys g.N.Compare.value g.N.Compare.order in
+    let K = keys g.N.NodeTrait.value g.N.NodeTrait.order in
     let a = c.args.a in
     let b = c.args.b in
     let nodes = c.args.nodes.now in
@@ -47,7 +47,7 @@ returns-then-capacity-len g c =
 
 pub join-requires : goal.join-requires
 join-requires g c =
-    let K = keys g.N.Compare.value g.N.Compare.order in
+    let K = keys g.N.NodeTrait.value g.N.NodeTrait.order in
     let a = c.args.a in
     let b = c.args.b in
     let nodes = c.args.nodes.now in
@@ -67,7 +67,7 @@ join-requires g c =
 
 pub append-requires : goal.append-requires
 append-requires g c =
-    let K = keys g.N.Compare.value g.N.Compare.order in
+    let K = keys g.N.NodeTrait.value g.N.NodeTrait.order in
     let links = c.args.links.now in
     record {
       sound = c.requires.sound.table;
@@ -76,7 +76,7 @@ append-requires g c =
 
 pub returns : goal.returns
 returns g c =
-    let K = keys g.N.Compare.value g.N.Compare.order in
+    let K = keys g.N.NodeTrait.value g.N.NodeTrait.order in
     let k = c.args.kind in
     let a = c.args.a in
     let b = c.args.b in

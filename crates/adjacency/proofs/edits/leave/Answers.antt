@@ -31,7 +31,7 @@ swap_remove-requires g c =
 
 pub returns : goal.returns
 returns g c =
-    let K = keys g.N.Compare.value g.N.Compare.order in
+    let K = keys g.N.NodeTrait.value g.N.NodeTrait.order in
     let mem = c.args.cells.now in
     let mem' = c.swap_remove.new.cells in
     let es = entries c.args.nodes.now in

@@ -19,7 +19,7 @@ use Rattle.adjacency.proofs.joins.join.Goals as goal
 
 pub note-requires : goal.note-requires
 note-requires g c =
-    let K = keys g.N.Compare.value g.N.Compare.order in
+    let K = keys g.N.NodeTrait.value g.N.NodeTrait.order in
     let mem = c.args.cells.now in
     let mem₁ = c.write_link.new.cells in
     let t = c.args.nodes.now in
@@ -38,13 +38,13 @@ note-requires g c =
       found = c.requires.first;
       room = omega (arith, c.requires.room);
       within = omega (arith, c.requires.within);
-      fresh = standing_still g.N.Compare.value g.N.Compare.order g.N.NodeTrait.hashed t mem mem₁ p a b same w.nexts w.prevs w.keys off below (2 * p) ∙ off (2 * p) (omega arith);
+      fresh = standing_still g.N.NodeTrait.value g.N.NodeTrait.order g.N.NodeTrait.hashed t mem mem₁ p a b same w.nexts w.prevs w.keys off below (2 * p) ∙ off (2 * p) (omega arith);
       own = λ d. ap (λ ks. named K d ks (twin (2 * p))) w.keys ∙ owner_first K d (cell_keys mem) p a b (omega (arith, length-map mem (λ y. y.key), c.requires.within));
     }
 
 pub returns-then-same : goal.returns-then-same
 returns-then-same g c =
-    let K = keys g.N.Compare.value g.N.Compare.order in
+    let K = keys g.N.NodeTrait.value g.N.NodeTrait.order in
     let mem = c.args.cells.now in
     let ks = cell_keys mem in
     let mem₁ = c.write_link.new.cells in
@@ -67,7 +67,7 @@ returns-then-same g c =
       stage = n.stage;
       whole = λ d x.
           let s = n.standing x in
-          let z = standing_still g.N.Compare.value g.N.Compare.order g.N.NodeTrait.hashed t mem mem₁ p a b same w.nexts w.prevs w.keys off below x in
+          let z = standing_still g.N.NodeTrait.value g.N.NodeTrait.order g.N.NodeTrait.hashed t mem mem₁ p a b same w.nexts w.prevs w.keys off below x in
           let o = c.requires.whole d x in
           let m = stands_more K d ks p a b fits x in
           let u : cond (eq K (K.value a) (K.value b)) 0 (bit (eqb x (2 * p + 1))) ≡ 0 = rw self refl in
@@ -79,14 +79,14 @@ returns-then-same g c =
           ap (λ z. noded z (rowed c.note.new.cells (entries c.note.new.nodes))) n.keys
           ∙ n.entered a
           ∙ ap (λ e. entered K a e (noded (cell_keys mem₁) (rowed mem₁ (entries t)))) (first a)
-          ∙ ap (entered K a (b, Outgoing)) (noded_still g.N.Compare.value g.N.Compare.order g.N.NodeTrait.hashed t mem mem₁ p a b same w.nexts w.prevs w.keys off below)
+          ∙ ap (entered K a (b, Outgoing)) (noded_still g.N.NodeTrait.value g.N.NodeTrait.order g.N.NodeTrait.hashed t mem mem₁ p a b same w.nexts w.prevs w.keys off below)
           ∙ sym (ap (λ u. cond u (entered K a (b, Outgoing) (noded ks ns)) (entered K b (a, Incoming) (entered K a (b, Outgoing) (noded ks ns)))) self);
     }
 
 pub note-requires-2 : goal.note-requires-2
 note-requires-2 g c =
-    let K = keys g.N.Compare.value g.N.Compare.order in
-    let laws = g.met.N.Compare.ordered in
+    let K = keys g.N.NodeTrait.value g.N.NodeTrait.order in
+    let laws = g.met.N.NodeTrait.ordered in
     let mem = c.args.cells.now in
     let ks = cell_keys mem in
     let mem₁ = c.write_link.new.cells in
@@ -112,7 +112,7 @@ note-requires-2 g c =
       within = omega (arith, c.requires.within);
       fresh =
           let s = n.standing (2 * p + 1) in
-          let z = standing_still g.N.Compare.value g.N.Compare.order g.N.NodeTrait.hashed t mem mem₁ p a b same w.nexts w.prevs w.keys off below (2 * p + 1) in
+          let z = standing_still g.N.NodeTrait.value g.N.NodeTrait.order g.N.NodeTrait.hashed t mem mem₁ p a b same w.nexts w.prevs w.keys off below (2 * p + 1) in
           let o = off (2 * p + 1) (omega arith) in
           let u = bit_other (2 * p + 1) (2 * p) (λ e. omega arith) in
           omega arith;
@@ -121,7 +121,7 @@ note-requires-2 g c =
 
 pub returns : goal.returns
 returns g c =
-    let K = keys g.N.Compare.value g.N.Compare.order in
+    let K = keys g.N.NodeTrait.value g.N.NodeTrait.order in
     let mem = c.args.cells.now in
     let ks = cell_keys mem in
     let mem₁ = c.write_link.new.cells in
@@ -149,7 +149,7 @@ returns g c =
       whole = λ d x.
           let s = m₂.standing x in
           let r = n.standing x in
-          let z = standing_still g.N.Compare.value g.N.Compare.order g.N.NodeTrait.hashed t mem mem₁ p a b same w.nexts w.prevs w.keys off below x in
+          let z = standing_still g.N.NodeTrait.value g.N.NodeTrait.order g.N.NodeTrait.hashed t mem mem₁ p a b same w.nexts w.prevs w.keys off below x in
           let o = c.requires.whole d x in
           let m = stands_more K d ks p a b fits x in
           let u : cond (eq K (K.value a) (K.value b)) 0 (bit (eqb x (2 * p + 1))) ≡ bit (eqb x (2 * p + 1)) = rw other refl in
@@ -165,6 +165,6 @@ returns g c =
           (ap (λ z. noded z (rowed mem₂ (entries c.note.new.nodes))) n.keys
           ∙ n.entered a
           ∙ ap (λ e. entered K a e (noded (cell_keys mem₁) (rowed mem₁ (entries t)))) (first a)
-          ∙ ap (entered K a (b, Outgoing)) (noded_still g.N.Compare.value g.N.Compare.order g.N.NodeTrait.hashed t mem mem₁ p a b same w.nexts w.prevs w.keys off below))
+          ∙ ap (entered K a (b, Outgoing)) (noded_still g.N.NodeTrait.value g.N.NodeTrait.order g.N.NodeTrait.hashed t mem mem₁ p a b same w.nexts w.prevs w.keys off below))
           ∙ sym (ap (λ u. cond u (entered K a (b, Outgoing) (noded ks ns)) (entered K b (a, Incoming) (entered K a (b, Outgoing) (noded ks ns)))) other);
     }

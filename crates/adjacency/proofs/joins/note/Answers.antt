@@ -22,8 +22,8 @@ use Rattle.adjacency.proofs.joins.note.Goals as goal
 
 pub enter-requires : goal.enter-requires
 enter-requires g c =
-    let K = keys g.N.Compare.value g.N.Compare.order in
-    let laws = g.met.N.Compare.ordered in
+    let K = keys g.N.NodeTrait.value g.N.NodeTrait.order in
+    let laws = g.met.N.NodeTrait.ordered in
     let mem = c.args.cells.now in
     let t = c.args.nodes.now in
     let es₁ = entries c.seat-i.new.nodes in
@@ -43,8 +43,8 @@ enter-requires g c =
 
 pub returns : goal.returns
 returns g c =
-    let K = keys g.N.Compare.value g.N.Compare.order in
-    let laws = g.met.N.Compare.ordered in
+    let K = keys g.N.NodeTrait.value g.N.NodeTrait.order in
+    let laws = g.met.N.NodeTrait.ordered in
     let mem = c.args.cells.now in
     let ks = cell_keys mem in
     let t = c.args.nodes.now in

@@ -9,8 +9,8 @@ use Rattle.adjacency.proofs.joins.seat.Goals as goal
 
 pub returns-in-Err : goal.returns-in-Err
 returns-in-Err g c =
-    let K = keys g.N.Compare.value g.N.Compare.order in
-    let laws = g.met.N.Compare.ordered in
+    let K = keys g.N.NodeTrait.value g.N.NodeTrait.order in
+    let laws = g.met.N.NodeTrait.ordered in
     let t = c.args.nodes.now in
     let es = entries t in
     let n = c.args.n in

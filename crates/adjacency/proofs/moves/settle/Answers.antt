@@ -15,7 +15,7 @@ use Rattle.adjacency.proofs.moves.settle.Goals as goal
 
 pub returns-then-g-l : goal.returns-then-g-l
 returns-then-g-l g c =
-    let K = keys g.N.Compare.value g.N.Compare.order in
+    let K = keys g.N.NodeTrait.value g.N.NodeTrait.order in
     let ks = cell_keys c.args.cells.now in
     let e = c.if-g-l.true in
     record {
@@ -28,7 +28,7 @@ returns-then-g-l g c =
 
 pub shift-requires : goal.shift-requires
 shift-requires g c =
-    let K = keys g.N.Compare.value g.N.Compare.order in
+    let K = keys g.N.NodeTrait.value g.N.NodeTrait.order in
     let mem = c.args.cells.now in
     let ks = cell_keys mem in
     let mem₁ = c.write_link.new.cells in
@@ -48,7 +48,7 @@ shift-requires g c =
     let b = c.key_of-first.result in
     let off : (x : ℕ) → x / 2 ≡ p → standing x ns ≡ 0 = λ x e. (c.requires.off a).out x e in
     let below : (x : ℕ) → 1 ≤ standing x ns → x < length mem = λ x h. let q = below_memory K a ks p l ns (c.requires.off a) x h in omega (arith, c.requires.within) in
-    let still : (x : ℕ) → standing x (rowed mem₁ (entries t)) ≡ standing x ns = standing_still g.N.Compare.value g.N.Compare.order g.N.NodeTrait.hashed t mem mem₁ p a b same w.nexts w.prevs w.keys off below in
+    let still : (x : ℕ) → standing x (rowed mem₁ (entries t)) ≡ standing x ns = standing_still g.N.NodeTrait.value g.N.NodeTrait.order g.N.NodeTrait.hashed t mem mem₁ p a b same w.nexts w.prevs w.keys off below in
     record {
       stage = stage_still _ _ _ t mem mem₁ p a b same w.nexts w.prevs w.keys off below c.requires.stage;
       held = still (2 * l) ∙ last_first K a ks p l ns (c.requires.off a) lt;
@@ -67,7 +67,7 @@ shift-requires g c =
 
 pub returns-then-same : goal.returns-then-same
 returns-then-same g c =
-    let K = keys g.N.Compare.value g.N.Compare.order in
+    let K = keys g.N.NodeTrait.value g.N.NodeTrait.order in
     let mem = c.args.cells.now in
     let ks = cell_keys mem in
     let mem₁ = c.write_link.new.cells in
@@ -87,7 +87,7 @@ returns-then-same g c =
     let b = c.key_of-first.result in
     let off : (x : ℕ) → x / 2 ≡ p → standing x ns ≡ 0 = λ x e. (c.requires.off a).out x e in
     let below : (x : ℕ) → 1 ≤ standing x ns → x < length mem = λ x h. let q = below_memory K a ks p l ns (c.requires.off a) x h in omega (arith, c.requires.within) in
-    let still : (x : ℕ) → standing x (rowed mem₁ (entries t)) ≡ standing x ns = standing_still g.N.Compare.value g.N.Compare.order g.N.NodeTrait.hashed t mem mem₁ p a b same w.nexts w.prevs w.keys off below in
+    let still : (x : ℕ) → standing x (rowed mem₁ (entries t)) ≡ standing x ns = standing_still g.N.NodeTrait.value g.N.NodeTrait.order g.N.NodeTrait.hashed t mem mem₁ p a b same w.nexts w.prevs w.keys off below in
     let keys_moved : (d : g.row.N.Denot) → wrote ks p a b ≡ moved ks d p l = λ d. λ i. wrote ks p (second d i) (first d i) in
     let r = c.shift.ensures in
     let self : eq K (K.value a) (K.value b) ≡ true = sym c.same.ensures ∙ c.if-same.true in
@@ -101,12 +101,12 @@ returns-then-same g c =
           ∙ sym (ap (λ z. stands K d z l x) (r.keys ∙ w.keys ∙ keys_moved d));
       told =
           ap (λ z. noded z (rowed c.shift.new.cells (entries c.shift.new.nodes))) r.keys ∙ r.told
-          ∙ noded_still g.N.Compare.value g.N.Compare.order g.N.NodeTrait.hashed t mem mem₁ p a b same w.nexts w.prevs w.keys off below;
+          ∙ noded_still g.N.NodeTrait.value g.N.NodeTrait.order g.N.NodeTrait.hashed t mem mem₁ p a b same w.nexts w.prevs w.keys off below;
     }
 
 pub shift-requires-2 : goal.shift-requires-2
 shift-requires-2 g c =
-    let K = keys g.N.Compare.value g.N.Compare.order in
+    let K = keys g.N.NodeTrait.value g.N.NodeTrait.order in
     let mem = c.args.cells.now in
     let ks = cell_keys mem in
     let mem₁ = c.write_link.new.cells in
@@ -126,7 +126,7 @@ shift-requires-2 g c =
     let b = c.key_of-first.result in
     let off : (x : ℕ) → x / 2 ≡ p → standing x ns ≡ 0 = λ x e. (c.requires.off a).out x e in
     let below : (x : ℕ) → 1 ≤ standing x ns → x < length mem = λ x h. let q = below_memory K a ks p l ns (c.requires.off a) x h in omega (arith, c.requires.within) in
-    let still : (x : ℕ) → standing x (rowed mem₁ (entries t)) ≡ standing x ns = standing_still g.N.Compare.value g.N.Compare.order g.N.NodeTrait.hashed t mem mem₁ p a b same w.nexts w.prevs w.keys off below in
+    let still : (x : ℕ) → standing x (rowed mem₁ (entries t)) ≡ standing x ns = standing_still g.N.NodeTrait.value g.N.NodeTrait.order g.N.NodeTrait.hashed t mem mem₁ p a b same w.nexts w.prevs w.keys off below in
     let r = c.shift.ensures in
     let other : eq K (K.value a) (K.value b) ≡ false = sym c.same.ensures ∙ c.if-same.false in
     let keys₂ = r.keys ∙ w.keys in
@@ -162,7 +162,7 @@ shift-requires-2 g c =
 
 pub returns : goal.returns
 returns g c =
-    let K = keys g.N.Compare.value g.N.Compare.order in
+    let K = keys g.N.NodeTrait.value g.N.NodeTrait.order in
     let mem = c.args.cells.now in
     let ks = cell_keys mem in
     let mem₁ = c.write_link.new.cells in
@@ -182,7 +182,7 @@ returns g c =
     let b = c.key_of-first.result in
     let off : (x : ℕ) → x / 2 ≡ p → standing x ns ≡ 0 = λ x e. (c.requires.off a).out x e in
     let below : (x : ℕ) → 1 ≤ standing x ns → x < length mem = λ x h. let q = below_memory K a ks p l ns (c.requires.off a) x h in omega (arith, c.requires.within) in
-    let still : (x : ℕ) → standing x (rowed mem₁ (entries t)) ≡ standing x ns = standing_still g.N.Compare.value g.N.Compare.order g.N.NodeTrait.hashed t mem mem₁ p a b same w.nexts w.prevs w.keys off below in
+    let still : (x : ℕ) → standing x (rowed mem₁ (entries t)) ≡ standing x ns = standing_still g.N.NodeTrait.value g.N.NodeTrait.order g.N.NodeTrait.hashed t mem mem₁ p a b same w.nexts w.prevs w.keys off below in
     let keys_moved : (d : g.row.N.Denot) → wrote ks p a b ≡ moved ks d p l = λ d. λ i. wrote ks p (second d i) (first d i) in
     let r = c.shift.ensures in
     let r₂ = c.shift-2.ensures in
@@ -198,5 +198,5 @@ returns g c =
       told =
           ap (λ z. noded z (rowed c.shift-2.new.cells (entries c.shift-2.new.nodes))) r₂.keys ∙ r₂.told
           ∙ ap (λ z. noded z (rowed c.shift.new.cells (entries c.shift.new.nodes))) r.keys ∙ r.told
-          ∙ noded_still g.N.Compare.value g.N.Compare.order g.N.NodeTrait.hashed t mem mem₁ p a b same w.nexts w.prevs w.keys off below;
+          ∙ noded_still g.N.NodeTrait.value g.N.NodeTrait.order g.N.NodeTrait.hashed t mem mem₁ p a b same w.nexts w.prevs w.keys off below;
     }

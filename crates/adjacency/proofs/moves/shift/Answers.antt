@@ -22,8 +22,8 @@ use Rattle.adjacency.proofs.moves.shift.Goals as goal
 
 pub returns-in_default : goal.returns-in_default
 returns-in_default g c =
-    let K = keys g.N.Compare.value g.N.Compare.order in
-    let laws = g.met.N.Compare.ordered in
+    let K = keys g.N.NodeTrait.value g.N.NodeTrait.order in
+    let laws = g.met.N.NodeTrait.ordered in
     let mem = c.args.cells.now in
     let es = entries c.args.nodes.now in
     let n = c.args.n in
@@ -33,8 +33,8 @@ returns-in_default g c =
 
 pub rename-requires : goal.rename-requires
 rename-requires g c =
-    let K = keys g.N.Compare.value g.N.Compare.order in
-    let laws = g.met.N.Compare.ordered in
+    let K = keys g.N.NodeTrait.value g.N.NodeTrait.order in
+    let laws = g.met.N.NodeTrait.ordered in
     let mem = c.args.cells.now in
     let es = entries c.args.nodes.now in
     let n = c.args.n in
@@ -55,8 +55,8 @@ rename-requires g c =
 
 pub returns : goal.returns
 returns g c =
-    let K = keys g.N.Compare.value g.N.Compare.order in
-    let laws = g.met.N.Compare.ordered in
+    let K = keys g.N.NodeTrait.value g.N.NodeTrait.order in
+    let laws = g.met.N.NodeTrait.ordered in
     let mem = c.args.cells.now in
     let ks = cell_keys mem in
     let es = entries c.args.nodes.now in

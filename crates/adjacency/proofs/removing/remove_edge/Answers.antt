@@ -11,15 +11,15 @@ use Rattle.adjacency.proofs.removing.remove_edge.Goals as goal
 -- where an end is absent, or no row has the entry, there is no link
 pub returns-in_default : goal.returns-in_default
 returns-in_default g c =
-    let value = g.N.Compare.value in
-    let order = g.N.Compare.order in
+    let value = g.N.NodeTrait.value in
+    let order = g.N.NodeTrait.order in
     let hashed = g.N.NodeTrait.hashed in
     let k = c.args.kind in
     let nodes = c.args.nodes.now in
     let links = c.args.links.now in
     let mem = c.args.rows.now.cells.now in
     let s = c.requires.sound in
-    let laws = g.met.N.Compare.ordered in
+    let laws = g.met.N.NodeTrait.ordered in
     let a = c.args.a in
     let b = c.args.b in
     record {
@@ -29,15 +29,15 @@ returns-in_default g c =
 
 pub returns-in_default-find : goal.returns-in_default-find
 returns-in_default-find g c =
-    let value = g.N.Compare.value in
-    let order = g.N.Compare.order in
+    let value = g.N.NodeTrait.value in
+    let order = g.N.NodeTrait.order in
     let hashed = g.N.NodeTrait.hashed in
     let k = c.args.kind in
     let nodes = c.args.nodes.now in
     let links = c.args.links.now in
     let mem = c.args.rows.now.cells.now in
     let s = c.requires.sound in
-    let laws = g.met.N.Compare.ordered in
+    let laws = g.met.N.NodeTrait.ordered in
     let a = c.args.a in
     let b = c.args.b in
     record {
@@ -49,8 +49,8 @@ returns-in_default-find g c =
 
 pub entry_of-requires : goal.entry_of-requires
 entry_of-requires g c =
-    let value = g.N.Compare.value in
-    let order = g.N.Compare.order in
+    let value = g.N.NodeTrait.value in
+    let order = g.N.NodeTrait.order in
     let hashed = g.N.NodeTrait.hashed in
     let nodes = c.args.nodes.now in
     record {
@@ -61,15 +61,15 @@ entry_of-requires g c =
 
 pub returns-in_default-entry_of : goal.returns-in_default-entry_of
 returns-in_default-entry_of g c =
-    let value = g.N.Compare.value in
-    let order = g.N.Compare.order in
+    let value = g.N.NodeTrait.value in
+    let order = g.N.NodeTrait.order in
     let hashed = g.N.NodeTrait.hashed in
     let k = c.args.kind in
     let nodes = c.args.nodes.now in
     let links = c.args.links.now in
     let mem = c.args.rows.now.cells.now in
     let s = c.requires.sound in
-    let laws = g.met.N.Compare.ordered in
+    let laws = g.met.N.NodeTrait.ordered in
     let a = c.args.a in
     let b = c.args.b in
     record {
@@ -83,15 +83,15 @@ returns-in_default-entry_of g c =
 
 pub sever-requires : goal.sever-requires
 sever-requires g c =
-    let value = g.N.Compare.value in
-    let order = g.N.Compare.order in
+    let value = g.N.NodeTrait.value in
+    let order = g.N.NodeTrait.order in
     let hashed = g.N.NodeTrait.hashed in
     let k = c.args.kind in
     let nodes = c.args.nodes.now in
     let links = c.args.links.now in
     let mem = c.args.rows.now.cells.now in
     let s = c.requires.sound in
-    let laws = g.met.N.Compare.ordered in
+    let laws = g.met.N.NodeTrait.ordered in
     let a = c.args.a in
     let b = c.args.b in
     record {
@@ -110,15 +110,15 @@ sever-requires g c =
 
 pub unhook-requires : goal.unhook-requires
 unhook-requires g c =
-    let value = g.N.Compare.value in
-    let order = g.N.Compare.order in
+    let value = g.N.NodeTrait.value in
+    let order = g.N.NodeTrait.order in
     let hashed = g.N.NodeTrait.hashed in
     let k = c.args.kind in
     let nodes = c.args.nodes.now in
     let links = c.args.links.now in
     let mem = c.args.rows.now.cells.now in
     let s = c.requires.sound in
-    let laws = g.met.N.Compare.ordered in
+    let laws = g.met.N.NodeTrait.ordered in
     let a = c.args.a in
     let b = c.args.b in
     let v = c.sever.ensures in
@@ -141,15 +141,15 @@ unhook-requires g c =
 
 pub returns : goal.returns
 returns g c =
-    let value = g.N.Compare.value in
-    let order = g.N.Compare.order in
+    let value = g.N.NodeTrait.value in
+    let order = g.N.NodeTrait.order in
     let hashed = g.N.NodeTrait.hashed in
     let k = c.args.kind in
     let nodes = c.args.nodes.now in
     let links = c.args.links.now in
     let mem = c.args.rows.now.cells.now in
     let s = c.requires.sound in
-    let laws = g.met.N.Compare.ordered in
+    let laws = g.met.N.NodeTrait.ordered in
     let a = c.args.a in
     let b = c.args.b in
     let v = c.sever.ensures in

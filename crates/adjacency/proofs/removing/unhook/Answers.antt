@@ -28,7 +28,7 @@ returns-in_default g c =
 
 pub settle-requires : goal.settle-requires
 settle-requires g c =
-    let K = keys g.N.Compare.value g.N.Compare.order in
+    let K = keys g.N.NodeTrait.value g.N.NodeTrait.order in
     let ls = entries c.args.links.now in
     let p = c.args.p in
     let mem = c.args.rows.now.cells.now in
@@ -49,7 +49,7 @@ settle-requires g c =
 
 pub returns : goal.returns
 returns g c =
-    let K = keys g.N.Compare.value g.N.Compare.order in
+    let K = keys g.N.NodeTrait.value g.N.NodeTrait.order in
     let ls = entries c.args.links.now in
     let p = c.args.p in
     let mem = c.args.rows.now.cells.now in

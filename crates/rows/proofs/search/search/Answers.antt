@@ -19,7 +19,7 @@ bounds-cells-x g c = inside g c
 
 pub loop-left-preserved : goal.loop-left-preserved
 loop-left-preserved g c =
-    let K = keys g.N.Compare.value g.N.Compare.order in
+    let K = keys g.N.NodeTrait.value g.N.NodeTrait.order in
     let m = K.value c.args.m.now in
     let mem = c.args.cells.now in
     let x = c.loop-left.x in
@@ -34,14 +34,14 @@ loop-left-preserved g c =
 
 pub returns-then-left-eq0 : goal.returns-then-left-eq0
 returns-then-left-eq0 g c d =
-    let K = keys g.N.Compare.value g.N.Compare.order in
+    let K = keys g.N.NodeTrait.value g.N.NodeTrait.order in
     let m = K.value c.args.m.now in
     let mem = c.args.cells.now in
     found_end K c.args.kind m c.args.t mem c.loop-left.x c.loop-left.left d (c.loop-left.invariant.1 d) (omega arith)
 
 pub returns-then-names : goal.returns-then-names
 returns-then-names g c d =
-    let K = keys g.N.Compare.value g.N.Compare.order in
+    let K = keys g.N.NodeTrait.value g.N.NodeTrait.order in
     let m = K.value c.args.m.now in
     let mem = c.args.cells.now in
     let x = c.loop-left.x in

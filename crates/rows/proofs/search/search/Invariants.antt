@@ -6,8 +6,8 @@ use Rattle.rows.proofs.search.search.Given as goal
 
 abbrev pub invariant-loop-left : goal.invariant-loop-left
 invariant-loop-left g l =
-    let K = keys g.N.Compare.value g.N.Compare.order in
-    let m = g.N.Compare.value l.m in
+    let K = keys g.N.NodeTrait.value g.N.NodeTrait.order in
+    let m = g.N.NodeTrait.value l.m in
     Inside l.cells l.x l.left
     × ((d : _) →
     found (naming K l.kind m l.t l.cells d) (onward l.cells l.x l.left)

@@ -6,7 +6,7 @@ use Rattle.rows.proofs.walk.advance.Goals as goal
 
 pub returns-then-shows : goal.returns-then-shows
 returns-then-shows g c e =
-    let K = keys g.N.Compare.value g.N.Compare.order in
+    let K = keys g.N.NodeTrait.value g.N.NodeTrait.order in
     let v = K.value c.args.n.now in
     let mem = c.args.cells.now in
     let w = c.loop-walk.walk in
@@ -18,7 +18,7 @@ returns-then-shows g c e =
 
 pub loop-walk-preserved : goal.loop-walk-preserved
 loop-walk-preserved g c e =
-    let K = keys g.N.Compare.value g.N.Compare.order in
+    let K = keys g.N.NodeTrait.value g.N.NodeTrait.order in
     let v = K.value c.args.n.now in
     let mem = c.args.cells.now in
     let w = c.loop-walk.walk in
@@ -30,7 +30,7 @@ loop-walk-preserved g c e =
 
 pub returns-else-walk-cells : goal.returns-else-walk-cells
 returns-else-walk-cells g c e =
-    let K = keys g.N.Compare.value g.N.Compare.order in
+    let K = keys g.N.NodeTrait.value g.N.NodeTrait.order in
     let v = K.value c.args.n.now in
     let mem = c.args.cells.now in
     let past = c.if-walk-cells.false in

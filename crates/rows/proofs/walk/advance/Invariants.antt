@@ -5,7 +5,7 @@ use Rattle.rows.proofs.walk.advance.Given as goal
 
 abbrev pub invariant-loop-walk : goal.invariant-loop-walk
 invariant-loop-walk g l =
-    let K = keys g.N.Compare.value g.N.Compare.order in
+    let K = keys g.N.NodeTrait.value g.N.NodeTrait.order in
     (e : _) →
     upcoming K e l.cells l.kind l.d (K.value l.n) l.walk
     ≡ upcoming K e l.cells l.kind l.d (K.value l.n) l.initial.walk

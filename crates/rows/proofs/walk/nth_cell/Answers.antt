@@ -7,7 +7,7 @@ use Rattle.rows.proofs.walk.nth_cell.Goals as goal
 
 pub loop-preserved : goal.loop-preserved
 loop-preserved g c e =
-    let K = keys g.N.Compare.value g.N.Compare.order in
+    let K = keys g.N.NodeTrait.value g.N.NodeTrait.order in
     let all = upcoming K e c.args.cells.now c.args.kind c.args.d (K.value c.args.n.now) c.loop.walk in
     let left = c.args.k - (c.loop.counter + 1) in
     let one_more : suc left ≡ c.args.k - c.loop.counter = omega arith in
@@ -22,7 +22,7 @@ returns-in_err-advance g c e =
 
 pub returns : goal.returns
 returns g c e =
-    let K = keys g.N.Compare.value g.N.Compare.order in
+    let K = keys g.N.NodeTrait.value g.N.NodeTrait.order in
     let all = upcoming K e c.args.cells.now c.args.kind c.args.d (K.value c.args.n.now) c.loop.walk in
     let none_left : 0 ≡ c.args.k - c.loop.counter = omega arith in
     nth_first all _ c.advance-2.result (c.advance-2.ensures e) ∙ ap (slice_get all) none_left ∙ c.loop.invariant e

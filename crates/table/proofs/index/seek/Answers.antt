@@ -19,10 +19,10 @@ returns-then-marks_of-w-eq0 g c i d lt e =
     let fits : len ≤ length s = omega (arith, c.requires.fits, within_memory s) in
     let il : i < len = omega (arith, length_entries s len fits) in
     let b =
-    home_of_same g.K.Compare.value g.K.NodeTrait.hashed s len (capacity_of s) c.args.w.home fits c.args.k.now
+    home_of_same g.K.NodeTrait.value g.K.NodeTrait.hashed s len (capacity_of s) c.args.w.home fits c.args.k.now
     (λ j q. ap (λ (z : Vacancy). z.home) (c.requires.hashed j q)) i d il e in
     let m =
-    tag_of_same g.K.Compare.value g.K.NodeTrait.hashed s len c.args.w.mark fits c.args.k.now
+    tag_of_same g.K.NodeTrait.value g.K.NodeTrait.hashed s len c.args.w.mark fits c.args.k.now
     (λ j q. ap (λ (z : Vacancy). z.mark) (c.requires.hashed j q)) i d il e in
     let z = unmarked (two (marked s)) _ _ _ _ _ b m c.marks_of.ensures c.if-marks_of-w-eq0.true in
     omega (arith, z, c.requires.marks i il)

@@ -52,8 +52,8 @@ returns-then-same g c =
     let lt : c.loop-link.link < len = omega (arith, h.0, c.loop-link.invariant.1) in (
       omega (arith, length_entries s len fits),
       λ d.
-          ap g.K.Compare.value (key_of_slot s len fits c.loop-link.link c.index-slots-link.result d lt)
-          ∙ alike_same g.K.Compare.order g.met.K.Compare.ordered _ _ (sym c.same.ensures ∙ c.if-same.true),
+          ap g.K.NodeTrait.value (key_of_slot s len fits c.loop-link.link c.index-slots-link.result d lt)
+          ∙ alike_same g.K.NodeTrait.order g.met.K.NodeTrait.ordered _ _ (sym c.same.ensures ∙ c.if-same.true),
     )
 
 pub next_of-link-requires : goal.next_of-link-requires
@@ -95,14 +95,14 @@ loop-link-preserved g c =
       link_next none _ len _ _ _ c.requires.chained small c.args.b c.requires.bucket link c.next_of-link.result low h.1 c.next_of-link.ensures.value,
       λ i d ge lt e.
           let past =
-          unseen_past g.K.Compare.value g.K.NodeTrait.hashed s len (capacity_of s) c.args.b fits c.args.k.now c.requires.hashed
+          unseen_past g.K.NodeTrait.value g.K.NodeTrait.hashed s len (capacity_of s) c.args.b fits c.args.k.now c.requires.hashed
           c.loop-link.invariant.0 link c.loop-link.invariant.1 c.loop-link.invariant.2 c.loop-link.invariant.3 i d (omega arith) e in
           let q : i ≡ link = omega (arith, past.1) in
           both_ways c.same.result c.if-same.false
           (c.same.ensures
-          ∙ same_alike g.K.Compare.order g.met.K.Compare.ordered _ _
-          (sym (ap g.K.Compare.value (key_of_slot s len fits link c.index-slots-link.result d low))
-          ∙ (ap (λ z. g.K.Compare.value (get_or (take len (pairs s)) z d).0) (sym q) ∙ e))),
+          ∙ same_alike g.K.NodeTrait.order g.met.K.NodeTrait.ordered _ _
+          (sym (ap g.K.NodeTrait.value (key_of_slot s len fits link c.index-slots-link.result d low))
+          ∙ (ap (λ z. g.K.NodeTrait.value (get_or (take len (pairs s)) z d).0) (sym q) ∙ e))),
     )
 
 pub returns : goal.returns
@@ -112,6 +112,6 @@ returns g c i d lt e =
     let fits : len ≤ length s = omega (arith, c.requires.fits, within_memory s) in
     let n = length_entries s len fits in
     let past =
-    unseen_past g.K.Compare.value g.K.NodeTrait.hashed s len (capacity_of s) c.args.b fits c.args.k.now c.requires.hashed
+    unseen_past g.K.NodeTrait.value g.K.NodeTrait.hashed s len (capacity_of s) c.args.b fits c.args.k.now c.requires.hashed
     c.loop-link.invariant.0 c.loop-link.link c.loop-link.invariant.1 c.loop-link.invariant.2 c.loop-link.invariant.3 i d (omega arith) e in
     omega (arith, past.0, c.loop-link.invariant.1, c.requires.fits, within_links s)

@@ -9,7 +9,7 @@ use Rattle.table.proofs.index.trace.Given as goal
 abbrev pub invariant-loop-link : goal.invariant-loop-link
 invariant-loop-link g l =
     (p : ℕ) × (p ≤ l.len) × (l.link ≡ latest none (bucket_of g.K.NodeTrait.hashed l.slots) l.b p)
-    × Unseen g.K.Compare.value (take l.len (pairs l.slots)) l.k p
+    × Unseen g.K.NodeTrait.value (take l.len (pairs l.slots)) l.k p
 
 abbrev pub decreases-loop-link : goal.decreases-loop-link
 decreases-loop-link g l = (l.link + 1) % 65536

@@ -5,7 +5,7 @@ use Rattle.walks.proofs.neighbors.next_cell.Goals as goal
 
 pub returns : goal.returns
 returns g c =
-    let K = keys g.N.Compare.value g.N.Compare.order in
+    let K = keys g.N.NodeTrait.value g.N.NodeTrait.order in
     let w = c.args.w.now in
     record {
       origin = refl;

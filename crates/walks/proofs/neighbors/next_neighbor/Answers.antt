@@ -7,7 +7,7 @@ use Rattle.walks.proofs.neighbors.next_neighbor.Goals as goal
 
 pub returns : goal.returns
 returns g c =
-    let K = keys g.N.Compare.value g.N.Compare.order in
+    let K = keys g.N.NodeTrait.value g.N.NodeTrait.order in
     let mem = c.args.cells.now in
     let x = c.in_ok-c.c in
     let is = c.in_ok-c.was in

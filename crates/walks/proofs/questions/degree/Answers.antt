@@ -8,11 +8,11 @@ returns-in_err-row g c =
     let a = c.args in
     c.from_residual.ensures
     ∙ ap (option_map (λ h. h.len)) (sym c.in_err-row.was ∙ c.head_of.ensures)
-    ∙ degree_told g.met.N.Compare.ordered c.requires.sound a.n
+    ∙ degree_told g.met.N.NodeTrait.ordered c.requires.sound a.n
 
 pub returns : goal.returns
 returns g c =
     let a = c.args in
     ap Some c.len.ensures
     ∙ ap (option_map (λ h. h.len)) (sym c.in_ok-row.was ∙ c.head_of.ensures)
-    ∙ degree_told g.met.N.Compare.ordered c.requires.sound a.n
+    ∙ degree_told g.met.N.NodeTrait.ordered c.requires.sound a.n

@@ -7,7 +7,7 @@ pub returns-in_err-c : goal.returns-in_err-c
 returns-in_err-c g c =
     let a = c.args in
     c.from_residual.ensures
-    ∙ entry_told g.met.N.Compare.ordered c.requires.sound a.n a.n a.k None (sym c.in_err-c.was ∙ c.cell_at.ensures.cell a.n)
+    ∙ entry_told g.met.N.NodeTrait.ordered c.requires.sound a.n a.n a.k None (sym c.in_err-c.was ∙ c.cell_at.ensures.cell a.n)
 
 pub returns : goal.returns
 returns g c =
@@ -16,4 +16,4 @@ returns g c =
     let is = c.in_ok-c.was in
     let key = sym (get_or-map (λ y. y.key) a.cells.now x c.index-cells-c.result a.n (c.cell_at.ensures.within x is)) in
     (λ i. Some (key i, c.side_of.ensures i))
-    ∙ entry_told g.met.N.Compare.ordered c.requires.sound a.n a.n a.k (Some x) (sym is ∙ c.cell_at.ensures.cell a.n)
+    ∙ entry_told g.met.N.NodeTrait.ordered c.requires.sound a.n a.n a.k (Some x) (sym is ∙ c.cell_at.ensures.cell a.n)

@@ -28,7 +28,7 @@ enter-requires g c =
     let t = c.args.self.now in
     let s = t.slots.now in
     let v =
-    sought_vacant g.K.Compare.order g.met.K.Compare.ordered g.K.Compare.value g.K.NodeTrait.hashed (capacity t) (entries t) c.args.k c.args.w c.requires.absent in
+    sought_vacant g.K.NodeTrait.order g.met.K.NodeTrait.ordered g.K.NodeTrait.value g.K.NodeTrait.hashed (capacity t) (entries t) c.args.k c.args.w c.requires.absent in
     record {
       fits = omega (arith, c.capacity.ensures);
       chained = c.requires.sound.chained;
@@ -45,7 +45,7 @@ returns g c =
     let s' = c.enter.new.slots in
     let len = t.len in
     let v =
-    sought_vacant g.K.Compare.order g.met.K.Compare.ordered g.K.Compare.value g.K.NodeTrait.hashed (capacity t) (entries t) c.args.k c.args.w c.requires.absent in
+    sought_vacant g.K.NodeTrait.order g.met.K.NodeTrait.ordered g.K.NodeTrait.value g.K.NodeTrait.hashed (capacity t) (entries t) c.args.k c.args.w c.requires.absent in
     let n = length_entries s len (omega (arith, c.requires.sound.fits, within_memory s)) in
     let in_memory : len < length (pairs s) = simp length-map (omega (arith, c.capacity.ensures, within_memory s)) in
     let e : take (len + 1) (pairs s') ≡ entries t ++ (c.args.k, c.args.v) ∷ [] =
@@ -56,7 +56,7 @@ returns g c =
         fits = omega (arith, c.capacity.ensures);
         chained = c.enter.ensures.chained;
         marks = c.enter.ensures.marks;
-        apart = rw e (apart_push g.K.Compare.value (entries t) c.args.k c.args.v c.requires.sound.apart v.0);
+        apart = rw e (apart_push g.K.NodeTrait.value (entries t) c.args.k c.args.v c.requires.sound.apart v.0);
       };
       done =
           ap (λ z. (Some len, z)) e

@@ -25,7 +25,7 @@ pub returns-in-Some : goal.returns-in-Some
 returns-in-Some g c =
     let t = c.args.self.now in
     sym (ap (λ z. found z (vacancy (capacity_of t.slots.now) (g.K.NodeTrait.hashed c.args.k.now)))
-    (present_position g.K.Compare.order g.met.K.Compare.ordered g.K.Compare.value (entries t) c.args.k.now c.requires.sound.apart
+    (present_position g.K.NodeTrait.order g.met.K.NodeTrait.ordered g.K.NodeTrait.value (entries t) c.args.k.now c.requires.sound.apart
     c.in-Some.i c.in-Some.ensures))
 
 pub returns-in-None : goal.returns-in-None
@@ -37,4 +37,4 @@ returns-in-None g c =
     ∙ (ap (λ z. vacancy z c.hash.result) c.capacity.ensures ∙ ap (vacancy cap) (sym (c.hash.ensures c.args.k.now refl))) in
     ap Err w
     ∙ sym (ap (λ z. found z (vacancy cap (g.K.NodeTrait.hashed c.args.k.now)))
-    (absent_position g.K.Compare.order g.met.K.Compare.ordered g.K.Compare.value (entries t) c.args.k.now c.in-None.ensures))
+    (absent_position g.K.NodeTrait.order g.met.K.NodeTrait.ordered g.K.NodeTrait.value (entries t) c.args.k.now c.in-None.ensures))

@@ -73,7 +73,7 @@ returns g c =
         marks =
             remarked t.len (homes hashed (capacity_of s) (pairs s)) (homes hashed (capacity_of s') (pairs s')) (tags hashed (pairs s)) (tags hashed (pairs s')) (marked s) (marked s')
             hs ts c.set_pair.ensures.marks c.requires.sound.marks;
-        apart = rw e (apart_set g.K.Compare.value (entries t) i k c.args.v c.key_at-k.ensures c.requires.sound.apart);
+        apart = rw e (apart_set g.K.NodeTrait.value (entries t) i k c.args.v c.key_at-k.ensures c.requires.sound.apart);
       };
       done =
           ap (λ z. (Some c.value_at-old.result, z)) e

@@ -60,7 +60,7 @@ returns g c =
         fits = omega (arith, c.requires.sound.fits);
         chained = a.chained;
         marks = a.marks;
-        apart = rw a.entries (apart_swap_removed g.K.Compare.value (entries t) i c.requires.sound.apart il);
+        apart = rw a.entries (apart_swap_removed g.K.NodeTrait.value (entries t) i c.requires.sound.apart il);
       };
       done =
           ap (λ z. (Some (record { entry = old; last = t.len - 1; gap = i }), z)) a.entries
