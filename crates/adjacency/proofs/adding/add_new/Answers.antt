@@ -1,6 +1,7 @@
 use Rattle.std.proofs.Common.{◌≡◌, ◌+◌, ◌/◌, ◌<◌, min, [], ◌∷◌, ◌++◌, length, None, Ok, sym, ap, ◌∙◌, arith}
 use Rattle.std.proofs.lemmas.List.{length-map, length_push}
 use Rattle.std.proofs.lemmas.Bool.{cond-true, cond-false, le-leb, lt-leb, le-ltb, lt-ltb}
+use Rattle.keys.specs.Laws.{equal_alike}
 use Rattle.table.specs.Tables.{entries, capacity}
 use Rattle.model.specs.Keys.{keys}
 use Rattle.model.specs.Maps.{edge_key, wanted}
@@ -38,7 +39,7 @@ returns-then-capacity-len g c =
     let mem = c.args.rows.now.cells.now in
     let ks = cell_keys mem in
     let free = lt-leb (min (capacity c.args.links.now) (length mem / 2)) (length ls) (omega (arith, c.len-p.ensures, c.capacity.ensures, c.room.ensures)) in
-    let more = c.lacking-more.ensures ∙ ap (lacking_of c.find-first.result c.find-second.result) c.same.ensures
+    let more = c.lacking-more.ensures ∙ ap (lacking_of c.find-first.result c.find-second.result) (c.eq.ensures ∙ equal_alike g.N.NodeTrait.value g.N.NodeTrait.order g.met.N.NodeTrait.compares g.met.N.Ord.matches_eq _ _)
     ∙ lacking_wanted K a b _ _ _ _ ks mem es c.find-first.ensures c.find-second.ensures in
     let n = length_noded ks (rowed mem es) in
     let m = rowed_length mem es in
@@ -55,7 +56,7 @@ join-requires g c =
     let ks = cell_keys mem in
     let s = c.requires.sound in
     let f = entries_fit _ _ nodes s.stage.nodes in
-    let more = c.lacking-more.ensures ∙ ap (lacking_of c.find-first.result c.find-second.result) c.same.ensures in
+    let more = c.lacking-more.ensures ∙ ap (lacking_of c.find-first.result c.find-second.result) (c.eq.ensures ∙ equal_alike g.N.NodeTrait.value g.N.NodeTrait.order g.met.N.NodeTrait.compares g.met.N.Ord.matches_eq _ _) in
     record {
       stage = s.stage;
       whole = λ d x. s.whole d x ∙ ap (λ n. stands K d ks n x) (sym c.len-p.ensures);
@@ -95,7 +96,7 @@ returns g c =
     let f = entries_fit _ _ nodes s.stage.nodes in
     let room : length ls < min (capacity links) (length mem / 2) = omega (arith, p, c.capacity.ensures, c.room.ensures) in
     let free = lt-leb (min (capacity links) (length mem / 2)) (length ls) room in
-    let more = c.lacking-more.ensures ∙ ap (lacking_of c.find-first.result c.find-second.result) c.same.ensures
+    let more = c.lacking-more.ensures ∙ ap (lacking_of c.find-first.result c.find-second.result) (c.eq.ensures ∙ equal_alike g.N.NodeTrait.value g.N.NodeTrait.order g.met.N.NodeTrait.compares g.met.N.Ord.matches_eq _ _)
     ∙ lacking_wanted K a b _ _ _ _ ks mem es c.find-first.ensures c.find-second.ensures in
     let n = length_noded ks (rowed mem es) in
     let m = rowed_length mem es in

@@ -1,5 +1,6 @@
 use Rattle.std.proofs.Common.{◌≡◌, ℕ, ◌+◌, ◌*◌, ◌/◌, ◌<◌, ◌≤◌, true, false, cond, eqb, length, get_or, sym, refl, ap, ◌∙◌, arith}
 use Rattle.std.proofs.lemmas.List.{length-map}
+use Rattle.keys.specs.Laws.{equal_alike}
 use Rattle.keys.specs.declared.kinds.Direction.{Direction}
 use Rattle.keys.specs.declared.kinds.Direction.TheVariants.{Outgoing, Incoming}
 use Rattle.table.specs.Tables.{entries}
@@ -42,8 +43,8 @@ note-requires g c =
       own = λ d. ap (λ ks. named K d ks (twin (2 * p))) w.keys ∙ owner_first K d (cell_keys mem) p a b (omega (arith, length-map mem (λ y. y.key), c.requires.within));
     }
 
-pub returns-then-same : goal.returns-then-same
-returns-then-same g c =
+pub returns-then-eq : goal.returns-then-eq
+returns-then-eq g c =
     let K = keys g.N.NodeTrait.value g.N.NodeTrait.order in
     let mem = c.args.cells.now in
     let ks = cell_keys mem in
@@ -60,7 +61,7 @@ returns-then-same g c =
     let off : (x : ℕ) → x / 2 ≡ p → standing x ns ≡ 0 = λ x e. c.requires.whole a x ∙ stands_out K a ks p x (omega arith) in
     let below : (x : ℕ) → 1 ≤ standing x ns → x < length mem = λ x h.
     let q = c.requires.whole a x in let l = stands_below K a ks p x (omega arith) in omega (arith, c.requires.within) in
-    let self : eq K (K.value a) (K.value b) ≡ true = sym c.same.ensures ∙ c.if-same.true in
+    let self : eq K (K.value a) (K.value b) ≡ true = sym (c.eq.ensures ∙ equal_alike g.N.NodeTrait.value g.N.NodeTrait.order g.met.N.NodeTrait.compares g.met.N.Ord.matches_eq _ _) ∙ c.if-eq.true in
     let first : (d : g.row.N.Denot) → ◌≡◌ {A = g.row.N.Denot × Direction} (get_or (cell_keys mem₁) (2 * p) d, side (2 * p)) (b, Outgoing) = λ d j.
     ((ap (λ z. get_or z (2 * p) d) w.keys ∙ key_first d ks p a b fits) j, side_even (2 * p) (omega arith) j) in
     record {
@@ -102,7 +103,7 @@ note-requires-2 g c =
     let off : (x : ℕ) → x / 2 ≡ p → standing x ns ≡ 0 = λ x e. c.requires.whole a x ∙ stands_out K a ks p x (omega arith) in
     let below : (x : ℕ) → 1 ≤ standing x ns → x < length mem = λ x h.
     let q = c.requires.whole a x in let l = stands_below K a ks p x (omega arith) in omega (arith, c.requires.within) in
-    let other : eq K (K.value a) (K.value b) ≡ false = sym c.same.ensures ∙ c.if-same.false in
+    let other : eq K (K.value a) (K.value b) ≡ false = sym (c.eq.ensures ∙ equal_alike g.N.NodeTrait.value g.N.NodeTrait.order g.met.N.NodeTrait.compares g.met.N.Ord.matches_eq _ _) ∙ c.if-eq.false in
     let ne : K.value a ≡ K.value b → ⊥ = λ e. Rattle.std.proofs.lemmas.Bool.both_ways _ other (same_eq K laws _ _ e) in
     let lack : lacking_of c.args.first c.args.second (eq K (K.value a) (K.value b)) ≡ vacant c.args.first + vacant c.args.second = rw other refl in
     record {
@@ -139,7 +140,7 @@ returns g c =
     let off : (x : ℕ) → x / 2 ≡ p → standing x ns ≡ 0 = λ x e. c.requires.whole a x ∙ stands_out K a ks p x (omega arith) in
     let below : (x : ℕ) → 1 ≤ standing x ns → x < length mem = λ x h.
     let q = c.requires.whole a x in let l = stands_below K a ks p x (omega arith) in omega (arith, c.requires.within) in
-    let other : eq K (K.value a) (K.value b) ≡ false = sym c.same.ensures ∙ c.if-same.false in
+    let other : eq K (K.value a) (K.value b) ≡ false = sym (c.eq.ensures ∙ equal_alike g.N.NodeTrait.value g.N.NodeTrait.order g.met.N.NodeTrait.compares g.met.N.Ord.matches_eq _ _) ∙ c.if-eq.false in
     let first : (d : g.row.N.Denot) → ◌≡◌ {A = g.row.N.Denot × Direction} (get_or (cell_keys mem₁) (2 * p) d, side (2 * p)) (b, Outgoing) = λ d j.
     ((ap (λ z. get_or z (2 * p) d) w.keys ∙ key_first d ks p a b fits) j, side_even (2 * p) (omega arith) j) in
     let second : (d : g.row.N.Denot) → ◌≡◌ {A = g.row.N.Denot × Direction} (get_or (cell_keys mem₂) (2 * p + 1) d, side (2 * p + 1)) (a, Incoming) = λ d j.

@@ -1,5 +1,6 @@
 use Rattle.std.proofs.Common.{◌≡◌, ℕ, ◌+◌, ◌*◌, ◌/◌, ◌<◌, ◌≤◌, true, false, length, get_or, sym, refl, ap, ◌∙◌, arith}
 use Rattle.std.proofs.lemmas.List.{length-map}
+use Rattle.keys.specs.Laws.{equal_alike}
 use Rattle.table.specs.Tables.{entries}
 use Rattle.model.specs.Keys.{keys, eq}
 use Rattle.rows.specs.HalfEdges.{twin}
@@ -65,8 +66,8 @@ shift-requires g c =
       side = side_even (2 * p) (omega arith) ∙ sym (side_even (2 * l) (omega arith));
     }
 
-pub returns-then-same : goal.returns-then-same
-returns-then-same g c =
+pub returns-then-eq : goal.returns-then-eq
+returns-then-eq g c =
     let K = keys g.N.NodeTrait.value g.N.NodeTrait.order in
     let mem = c.args.cells.now in
     let ks = cell_keys mem in
@@ -90,7 +91,7 @@ returns-then-same g c =
     let still : (x : ℕ) → standing x (rowed mem₁ (entries t)) ≡ standing x ns = standing_still g.N.NodeTrait.value g.N.NodeTrait.order g.N.NodeTrait.hashed t mem mem₁ p a b same w.nexts w.prevs w.keys off below in
     let keys_moved : (d : g.row.N.Denot) → wrote ks p a b ≡ moved ks d p l = λ d. λ i. wrote ks p (second d i) (first d i) in
     let r = c.shift.ensures in
-    let self : eq K (K.value a) (K.value b) ≡ true = sym c.same.ensures ∙ c.if-same.true in
+    let self : eq K (K.value a) (K.value b) ≡ true = sym (c.eq.ensures ∙ equal_alike g.N.NodeTrait.value g.N.NodeTrait.order g.met.N.NodeTrait.compares g.met.N.Ord.matches_eq _ _) ∙ c.if-eq.true in
     record {
       stage = r.stage;
       room = r.room;
@@ -128,7 +129,7 @@ shift-requires-2 g c =
     let below : (x : ℕ) → 1 ≤ standing x ns → x < length mem = λ x h. let q = below_memory K a ks p l ns (c.requires.off a) x h in omega (arith, c.requires.within) in
     let still : (x : ℕ) → standing x (rowed mem₁ (entries t)) ≡ standing x ns = standing_still g.N.NodeTrait.value g.N.NodeTrait.order g.N.NodeTrait.hashed t mem mem₁ p a b same w.nexts w.prevs w.keys off below in
     let r = c.shift.ensures in
-    let other : eq K (K.value a) (K.value b) ≡ false = sym c.same.ensures ∙ c.if-same.false in
+    let other : eq K (K.value a) (K.value b) ≡ false = sym (c.eq.ensures ∙ equal_alike g.N.NodeTrait.value g.N.NodeTrait.order g.met.N.NodeTrait.compares g.met.N.Ord.matches_eq _ _) ∙ c.if-eq.false in
     let keys₂ = r.keys ∙ w.keys in
     record {
       stage = r.stage;
@@ -186,7 +187,7 @@ returns g c =
     let keys_moved : (d : g.row.N.Denot) → wrote ks p a b ≡ moved ks d p l = λ d. λ i. wrote ks p (second d i) (first d i) in
     let r = c.shift.ensures in
     let r₂ = c.shift-2.ensures in
-    let other : eq K (K.value a) (K.value b) ≡ false = sym c.same.ensures ∙ c.if-same.false in
+    let other : eq K (K.value a) (K.value b) ≡ false = sym (c.eq.ensures ∙ equal_alike g.N.NodeTrait.value g.N.NodeTrait.order g.met.N.NodeTrait.compares g.met.N.Ord.matches_eq _ _) ∙ c.if-eq.false in
     record {
       stage = r₂.stage;
       room = r₂.room ∙ r.room;

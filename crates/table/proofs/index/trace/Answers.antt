@@ -1,5 +1,6 @@
 use Rattle.std.proofs.Common.{◌≡◌, ◌<◌, ◌≤◌, length, get_or, take, sym, ap, ◌∙◌, arith}
 use Rattle.std.proofs.lemmas.Bool.{both_ways}
+use Rattle.keys.specs.Laws.{equal_alike}
 use Rattle.table.specs.Slots.{pairs, none}
 use Rattle.table.specs.Index.{capacity_of}
 use Rattle.table.proofs.Capacity.{within_memory, within_links, bucket_slot}
@@ -40,8 +41,8 @@ bounds-slots-link g c =
     c.loop-link.invariant.1 c.loop-link.invariant.2 c.loop-link-test.true in
     omega (arith, h.0, c.loop-link.invariant.1, c.requires.fits, within_memory s)
 
-pub returns-then-same : goal.returns-then-same
-returns-then-same g c =
+pub returns-then-eq : goal.returns-then-eq
+returns-then-eq g c =
     let s = c.args.slots.now in
     let len = c.args.len in
     let small : len ≤ none = omega (arith, c.requires.fits, within_links s) in
@@ -53,7 +54,7 @@ returns-then-same g c =
       omega (arith, length_entries s len fits),
       λ d.
           ap g.K.NodeTrait.value (key_of_slot s len fits c.loop-link.link c.index-slots-link.result d lt)
-          ∙ alike_same g.K.NodeTrait.order g.met.K.NodeTrait.ordered _ _ (sym c.same.ensures ∙ c.if-same.true),
+          ∙ alike_same g.K.NodeTrait.order g.met.K.NodeTrait.ordered _ _ (sym (c.eq.ensures ∙ equal_alike g.K.NodeTrait.value g.K.NodeTrait.order g.met.K.NodeTrait.compares g.met.K.Ord.matches_eq _ _) ∙ c.if-eq.true),
     )
 
 pub next_of-link-requires : goal.next_of-link-requires
@@ -98,8 +99,8 @@ loop-link-preserved g c =
           unseen_past g.K.NodeTrait.value g.K.NodeTrait.hashed s len (capacity_of s) c.args.b fits c.args.k.now c.requires.hashed
           c.loop-link.invariant.0 link c.loop-link.invariant.1 c.loop-link.invariant.2 c.loop-link.invariant.3 i d (omega arith) e in
           let q : i ≡ link = omega (arith, past.1) in
-          both_ways c.same.result c.if-same.false
-          (c.same.ensures
+          both_ways c.eq.result c.if-eq.false
+          ((c.eq.ensures ∙ equal_alike g.K.NodeTrait.value g.K.NodeTrait.order g.met.K.NodeTrait.compares g.met.K.Ord.matches_eq _ _)
           ∙ same_alike g.K.NodeTrait.order g.met.K.NodeTrait.ordered _ _
           (sym (ap g.K.NodeTrait.value (key_of_slot s len fits link c.index-slots-link.result d low))
           ∙ (ap (λ z. g.K.NodeTrait.value (get_or (take len (pairs s)) z d).0) (sym q) ∙ e))),
