@@ -14,7 +14,6 @@ use keys::kinds::Kind;
 use keys::nodes::NodeTrait;
 use keys::refusals::Refusal;
 use rows::cells::RowHead;
-use std::cmp::Ordering;
 use table::table::{Table, Vacancy};
 
 /// The key that the link from `a` to `b` is stored under.
@@ -22,11 +21,8 @@ pub fn edge_key<N: NodeTrait>(kind: Kind, a: N, b: N) -> (N, N)
     ensures { result ≡ edge_key (keys N.value N.order) kind a b }
 {
     match kind {
-        Kind::Directed => (a, b),
-        Kind::Undirected => match a.compare(&b) {
-            Ordering::Greater => (b, a),
-            _ => (a, b),
-        },
+        Kind::Undirected if a > b => (b, a),
+        _ => (a, b),
     }
 }
 

@@ -1,8 +1,8 @@
 -- Numbers keep the laws of an order, and pairs do if both of their parts do.
-use Rattle.std.specs.Prelude.{◌≡◌, ◌⊎◌, Bool, true, refl, Option, Some}
+use Rattle.std.specs.Prelude.{◌≡◌, ◌⊎◌, Bool, true, refl}
 use Rattle.std.specs.declared.cmp.Ordering.TheVariants.{Less, Equal, Greater}
 use Rattle.std.specs.declared.cmp.Ordering.{Ordering}
-use Rattle.std.specs.Ordering.{is_eq, is_gt, is_some_and, ordering_then, partial_gt}
+use Rattle.std.specs.Ordering.{is_eq, ordering_then}
 use Rattle.std.proofs.Common.{◌∙◌, ap, inl, inr, arith}
 use Rattle.std.proofs.lemmas.Bool.{false≢true}
 use Rattle.std.proofs.lemmas.Bool.Decides.{nat_tests}
@@ -78,10 +78,8 @@ pair_laws f g F G = record {
 pub both_by : {p q r s : Ordering} → p ≡ r → q ≡ s → ordering_then p q ≡ ordering_then r s
 both_by e d = cc
 
--- where `cmp` goes by the values of keys, `==` and `>` do too
-module _ {K V : Type 0} (value : K → V) (order : V → V → Ordering) {cmp : K → K → Ordering} (compares : (a b : K) → cmp a b ≡ order (value a) (value b)) where
-  pub equal_alike : {eq : K → K → Bool} → ((a b : K) → eq a b ≡ is_eq (cmp a b)) → (a b : K) → eq a b ≡ alike order (value a) (value b)
-  equal_alike matches a b = matches a b ∙ ap is_eq (compares a b)
-
-  pub greater_after : {partial : K → K → Option Ordering} → ((a b : K) → partial a b ≡ Some (cmp a b)) → (a b : K) → partial_gt partial a b ≡ is_gt (order (value a) (value b))
-  greater_after matches a b = ap (is_some_and is_gt) (matches a b) ∙ ap is_gt (compares a b)
+-- where `cmp` goes by the values of keys, `==` is the test for equal values
+pub equal_alike : {K V : Type 0} (value : K → V) (order : V → V → Ordering) {cmp : K → K → Ordering} {eq : K → K → Bool}
+    → ((a b : K) → cmp a b ≡ order (value a) (value b)) → ((a b : K) → eq a b ≡ is_eq (cmp a b))
+    → (a b : K) → eq a b ≡ alike order (value a) (value b)
+equal_alike value order compares matches a b = matches a b ∙ ap is_eq (compares a b)
