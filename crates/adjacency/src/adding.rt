@@ -20,9 +20,10 @@ use table::table::{Table, Vacancy};
 pub fn edge_key<N: NodeTrait>(kind: Kind, a: N, b: N) -> (N, N)
     ensures { result ≡ edge_key (keys N.value N.order) kind a b }
 {
-    match kind {
-        Kind::Undirected if a > b => (b, a),
-        _ => (a, b),
+    if kind.is_directed() || a <= b {
+        (a, b)
+    } else {
+        (b, a)
     }
 }
 

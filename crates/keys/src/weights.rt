@@ -3,6 +3,7 @@ ghost use Rattle.std.proofs.Common.{rules};
 ghost use Rattle.keys.specs.Weights.{no_price, no_listing};
 
 /// What a link can carry: a value that has a default, the weight of a link that is given without one.
+// A trait beside `Default`, which says of each value whether it may be given, and names none.
 pub trait Weight: Copy + Default {
     ghost defaulted: { Self };
 

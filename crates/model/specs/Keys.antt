@@ -1,6 +1,5 @@
 -- A key type, by the value of each key and the order of values.
-use Rattle.std.specs.Prelude.{Bool, true, false}
-use Rattle.std.specs.declared.cmp.Ordering.TheVariants.{Less, Equal, Greater}
+use Rattle.std.specs.Prelude.{Bool}
 use Rattle.std.specs.declared.cmp.Ordering.{Ordering}
 use Rattle.keys.specs.Order.{alike}
 
