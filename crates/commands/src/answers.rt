@@ -46,6 +46,7 @@ impl fmt::Display for Answer {
             Answer::Refused(refusal) => write!(f, "refused {}", refusal.number()),
             Answer::Quoted { price, place } => write!(f, "{} at place {place}", price.0),
             Answer::Nothing => f.write_str("nothing there"),
+            // Nested: a pattern for each case of `moved` takes twice the lines.
             Answer::Removed { price, gap, moved } => match moved {
                 Some(last) => write!(f, "removed {}, place {last} moved to place {gap}", price.0),
                 None => write!(f, "removed {}, no gap", price.0),

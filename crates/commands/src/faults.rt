@@ -15,6 +15,7 @@ pub enum Fault {
     NumberOver32Bits,
 }
 
+// By hand: the derive of `thiserror` does not promise which fault it makes.
 impl From<NumberFault> for Fault {
     ghost from_gives = { λ e r. r ≡ fault_of e };
 
@@ -26,6 +27,7 @@ impl From<NumberFault> for Fault {
     }
 }
 
+// By hand: the derive of `thiserror` promises no text.
 impl fmt::Display for Fault {
     ghost output = { λ x. Some (fault_text x) };
 
