@@ -1,28 +1,32 @@
 -- What a line asks for: its first word says what, and the words after it are numbers. Assumes nothing.
 use Rattle.std.specs.Prelude.{ℕ, Bool, false, cond, List, [], ◌∷◌, Some, None, Ok, Err, codes, Option, Result, ◌==◌}
 use Prim.Native.String.{String}
-use Rattle.std.specs.Borrow.{Bor}
 use Rattle.std.specs.Str.{bytes_eq}
 use Rattle.keys.specs.declared.nodes.Account.{Account}
 use Rattle.keys.specs.declared.weights.Price.{Price}
 use Rattle.text.specs.declared.numbers.NumberFault.{NumberFault}
 use Rattle.text.specs.declared.numbers.NumberFault.TheVariants as number
-use Rattle.text.specs.Words.{split}
+use Rattle.text.specs.Words.{split, left}
 use Rattle.text.specs.Numbers.{number_of}
+use Rattle.commands.specs.declared.parsing.Arguments.{Arguments}
 use Rattle.commands.specs.declared.command.Command.{Command}
 use Rattle.commands.specs.declared.command.Command.TheVariants as command
 use Rattle.commands.specs.declared.faults.Fault.{Fault}
 use Rattle.commands.specs.declared.faults.Fault.TheVariants.{UnknownWord, MissingWord, SurplusWord, NotANumber, NumberOver32Bits}
+
+-- what is left of the line
+abbrev pub rest_of : Arguments → List ℕ
+rest_of arguments = left arguments.words
 
 -- one step and then the next, unless the first finds a fault
 abbrev pub and_then : {X Y : Type 0} → Result X Fault → (X → Result Y Fault) → Result Y Fault
 and_then (Ok x) next = next x
 and_then (Err f) next = Err f
 
--- a step's answer with the bytes of the rest of the line in the place of a reference to them
-abbrev pub seen : {X : Type 0} → Result (X × Bor (List ℕ)) Fault → Result (X × List ℕ) Fault
-seen (Ok p) = Ok (p.0, p.1.now)
-seen (Err f) = Err f
+-- a step's answer, with what it leaves of the line
+abbrev pub leaving : {X : Type 0} → Result X Fault → List ℕ → Result (X × List ℕ) Fault
+leaving (Ok x) rest = Ok (x, rest)
+leaving (Err f) rest = Err f
 
 abbrev pub fault_of : NumberFault → Fault
 fault_of number.NotANumber = NotANumber

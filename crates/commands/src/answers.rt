@@ -45,7 +45,8 @@ impl fmt::Display for Answer {
             Answer::Replaced { price } => write!(f, "replaced {}", price.0),
             Answer::Refused(refusal) => write!(f, "refused {}", refusal.number()),
             Answer::Quoted { price, place } => write!(f, "{} at place {place}", price.0),
-            Answer::Nothing => write!(f, "nothing there"),
+            Answer::Nothing => f.write_str("nothing there"),
+            // Nested: a pattern for each case of `moved` takes twice the lines.
             Answer::Removed { price, gap, moved } => match moved {
                 Some(last) => write!(f, "removed {}, place {last} moved to place {gap}", price.0),
                 None => write!(f, "removed {}, no gap", price.0),
@@ -69,13 +70,11 @@ impl fmt::Display for Line {
     ghost output = { λ x. Some (line_text x) };
 
     fn fmt<W: fmt::Write>(&self, f: &mut fmt::Formatter<W>) -> fmt::Result {
-        let Line {
-            place,
-            from,
-            to,
-            price,
-        } = *self;
-        write!(f, "place {place}: {} {} {}", from.0, to.0, price.0)
+        write!(
+            f,
+            "place {}: {} {} {}",
+            self.place, self.from.0, self.to.0, self.price.0
+        )
     }
 }
 

@@ -15,6 +15,7 @@ pub enum Fault {
     NumberOver32Bits,
 }
 
+// By hand: the derive of `thiserror` does not promise which fault it makes.
 impl From<NumberFault> for Fault {
     ghost from_gives = { λ e r. r ≡ fault_of e };
 
@@ -26,17 +27,18 @@ impl From<NumberFault> for Fault {
     }
 }
 
+// By hand: the derive of `thiserror` promises no text.
 impl fmt::Display for Fault {
     ghost output = { λ x. Some (fault_text x) };
 
     fn fmt<W: fmt::Write>(&self, f: &mut fmt::Formatter<W>) -> fmt::Result {
-        match self {
-            Fault::UnknownWord => write!(f, "unknown word"),
-            Fault::MissingWord => write!(f, "missing word"),
-            Fault::SurplusWord => write!(f, "surplus word"),
-            Fault::NotANumber => write!(f, "not a number"),
-            Fault::NumberOver32Bits => write!(f, "number over 32 bits"),
-        }
+        f.write_str(match self {
+            Fault::UnknownWord => "unknown word",
+            Fault::MissingWord => "missing word",
+            Fault::SurplusWord => "surplus word",
+            Fault::NotANumber => "not a number",
+            Fault::NumberOver32Bits => "number over 32 bits",
+        })
     }
 }
 
@@ -51,7 +53,6 @@ impl fmt::Display for Complaint {
     ghost output = { λ x. Some (complaint_text x) };
 
     fn fmt<W: fmt::Write>(&self, f: &mut fmt::Formatter<W>) -> fmt::Result {
-        let Complaint { line, fault } = *self;
-        write!(f, "line {line}: {fault}")
+        write!(f, "line {}: {}", self.line, self.fault)
     }
 }

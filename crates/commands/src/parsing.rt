@@ -1,111 +1,82 @@
 // A line is read from left to right, and the first fault is told.
 ghost use Rattle.std.specs.Prelude.{◌≡◌};
-ghost use Rattle.std.specs.Str.{bytes_eq};
-ghost use Rattle.commands.specs.Commands.{seen, next_number, next_key, next_link, next_price, at_end, asks_add, asks_quote, asks_remove, asks_alone, asked, parsed};
+ghost use Rattle.commands.specs.Commands.{rest_of, leaving, next_number, next_key, next_link, next_price, at_end, asked, parsed};
 
 use crate::command::Command;
 use crate::faults::Fault;
 use keys::nodes::Account;
 use keys::weights::Price;
 use text::numbers::number;
-use text::words::split_word;
+use text::words::Words;
 
-// Each of these takes one part from the rest of the line, and hands back what follows.
-fn next_number(rest: &[u8]) -> Result<(u32, &[u8]), Fault>
-    ensures { seen result ≡ next_number rest.now }
-{
-    let Some((word, rest)) = split_word(rest) else {
-        return Err(Fault::MissingWord);
-    };
-    Ok((number(word)?, rest))
+// The words that follow the first of a line.
+#[derive(Drop)]
+struct Arguments<'a> {
+    words: Words<'a>,
 }
 
-fn next_key(rest: &[u8]) -> Result<(Account, &[u8]), Fault>
-    ensures { seen result ≡ next_key rest.now }
-{
-    let (n, rest) = next_number(rest)?;
-    Ok((Account(n), rest))
-}
-
-fn next_price(rest: &[u8]) -> Result<(Price, &[u8]), Fault>
-    ensures { seen result ≡ next_price rest.now }
-{
-    let (n, rest) = next_number(rest)?;
-    Ok((Price(n), rest))
-}
-
-fn next_link(rest: &[u8]) -> Result<((Account, Account), &[u8]), Fault>
-    ensures { seen result ≡ next_link rest.now }
-{
-    let (from, rest) = next_key(rest)?;
-    let (to, rest) = next_key(rest)?;
-    Ok(((from, to), rest))
-}
-
-// The line ends here.
-fn ended(rest: &[u8]) -> Result<(), Fault>
-    ensures { result ≡ at_end rest.now }
-{
-    match split_word(rest) {
-        None => Ok(()),
-        Some(_) => Err(Fault::SurplusWord),
+impl<'a> Arguments<'a> {
+    fn number(&mut self) -> Result<u32, Fault>
+        ensures { leaving result (rest_of self.new) ≡ next_number (rest_of self.old) }
+    {
+        let word = self.words.next().ok_or(Fault::MissingWord)?;
+        Ok(number(word)?)
     }
-}
 
-fn add(rest: &[u8]) -> Result<Command, Fault>
-    ensures { result ≡ asks_add rest.now }
-{
-    let ((from, to), rest) = next_link(rest)?;
-    let (price, rest) = next_price(rest)?;
-    ended(rest)?;
-    Ok(Command::Add { from, to, price })
-}
+    fn account(&mut self) -> Result<Account, Fault>
+        ensures { leaving result (rest_of self.new) ≡ next_key (rest_of self.old) }
+    {
+        self.number().map(Account)
+    }
 
-fn quote(rest: &[u8]) -> Result<Command, Fault>
-    ensures { result ≡ asks_quote rest.now }
-{
-    let ((from, to), rest) = next_link(rest)?;
-    ended(rest)?;
-    Ok(Command::Quote { from, to })
-}
+    fn price(&mut self) -> Result<Price, Fault>
+        ensures { leaving result (rest_of self.new) ≡ next_price (rest_of self.old) }
+    {
+        self.number().map(Price)
+    }
 
-fn remove(rest: &[u8]) -> Result<Command, Fault>
-    ensures { result ≡ asks_remove rest.now }
-{
-    let ((from, to), rest) = next_link(rest)?;
-    ended(rest)?;
-    Ok(Command::Remove { from, to })
-}
+    fn link(&mut self) -> Result<(Account, Account), Fault>
+        ensures { leaving result (rest_of self.new) ≡ next_link (rest_of self.old) }
+    {
+        let from = self.account()?;
+        let to = self.account()?;
+        Ok((from, to))
+    }
 
-// A command that takes nothing.
-fn alone(command: Command, rest: &[u8]) -> Result<Command, Fault>
-    ensures { result ≡ asks_alone command rest.now }
-{
-    ended(rest)?;
-    Ok(command)
-}
+    // The line ends here.
+    fn end(&mut self) -> Result<(), Fault>
+        ensures { result ≡ at_end (rest_of self.old) }
+    {
+        match self.words.next() {
+            None => Ok(()),
+            Some(_) => Err(Fault::SurplusWord),
+        }
+    }
 
-fn is(word: &[u8], name: &[u8]) -> bool
-    ensures { result ≡ bytes_eq word.now name.now }
-{
-    word == name
-}
-
-fn request(word: &[u8], rest: &[u8]) -> Result<Command, Fault>
-    ensures { result ≡ asked word.now rest.now }
-{
-    if is(word, b"add") {
-        add(rest)
-    } else if is(word, b"price") {
-        quote(rest)
-    } else if is(word, b"remove") {
-        remove(rest)
-    } else if is(word, b"list") {
-        alone(Command::List, rest)
-    } else if is(word, b"clear") {
-        alone(Command::Clear, rest)
-    } else {
-        Err(Fault::UnknownWord)
+    // What is asked for by the first word of the line.
+    fn command(mut self, word: &[u8]) -> Result<Command, Fault>
+        ensures { result ≡ asked word.now (rest_of self.entry) }
+    {
+        let command = match word {
+            b"add" => {
+                let (from, to) = self.link()?;
+                let price = self.price()?;
+                Command::Add { from, to, price }
+            }
+            b"price" => {
+                let (from, to) = self.link()?;
+                Command::Quote { from, to }
+            }
+            b"remove" => {
+                let (from, to) = self.link()?;
+                Command::Remove { from, to }
+            }
+            b"list" => Command::List,
+            b"clear" => Command::Clear,
+            _ => return Err(Fault::UnknownWord),
+        };
+        self.end()?;
+        Ok(command)
     }
 }
 
@@ -113,13 +84,14 @@ fn request(word: &[u8], rest: &[u8]) -> Result<Command, Fault>
 pub fn parse(line: &[u8]) -> Result<Option<Command>, Fault>
     ensures { result ≡ parsed line.now }
 {
-    if let [b'#', ..] = line {
+    if line.starts_with(b"#") {
         return Ok(None);
     }
-    let Some((word, rest)) = split_word(line) else {
+    let mut words = Words::new(line);
+    let Some(word) = words.next() else {
         return Ok(None);
     };
-    Ok(Some(request(word, rest)?))
+    Arguments { words }.command(word).map(Some)
 }
 
 #[cfg(test)]

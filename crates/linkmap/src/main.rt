@@ -57,10 +57,7 @@ fn room(rt: &HostRuntime) -> anyhow::Result<usize> {
     let Some(word) = words.next() else {
         return Ok(MOST);
     };
-    match room_for(word.as_bytes()) {
-        Ok(n) => Ok(n),
-        Err(_) => Err(anyhow!("the capacity is no number of 32 bits")),
-    }
+    room_for(word.as_bytes()).map_err(|_| anyhow!("the capacity is no number of 32 bits"))
 }
 
 fn run(rt: &HostRuntime) -> anyhow::Result<()> {

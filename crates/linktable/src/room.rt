@@ -10,8 +10,5 @@ pub const MOST: usize = 65_535;
 pub fn room_for(word: &[u8]) -> Result<usize, NumberFault>
     ensures { result ≡ room_of word.now }
 {
-    match number(word) {
-        Ok(n) => Ok((n as usize).min(MOST)),
-        Err(fault) => Err(fault),
-    }
+    Ok((number(word)? as usize).min(MOST))
 }

@@ -1,5 +1,6 @@
 -- Digits that are read on from a value, which is kept from passing the limit. Assumes nothing.
 use Rattle.std.proofs.Common.{◌≡◌, ℕ, ◌+◌, ◌-◌, ◌*◌, ◌^◌, ◌<◌, ◌≤◌, min, Bool, true, false, cond, ◌&&◌, eqb, ltb, List, [], ◌∷◌, length, get_or, drop, Ok, Err, Result, sym, refl, ap, ◌∙◌, inl, inr, arith}
+use Rattle.std.specs.Result.{OkIff, MatchResult}
 use Rattle.std.proofs.lemmas.List.{at_drop_more, at_drop_all}
 use Rattle.std.proofs.lemmas.Bool.{cases_lt, lt-ltb, le-ltb, eqb-true, eqb-false, cond-true, cond-false, and_left}
 use Rattle.text.specs.declared.numbers.NumberFault.{NumberFault}
@@ -14,11 +15,16 @@ read_on_ge : (v : ℕ) (bs : List ℕ) → v ≤ read_on v bs
 read_on_ge v [] = omega arith
 read_on_ge v (b ∷ bs) = omega (arith, read_on_ge (v * 10 + (b - 48)) bs)
 
-pub limited_within : (n : ℕ) → n < 2 ^ 32 → limited n ≡ Ok n
+limited_within : (n : ℕ) → n < 2 ^ 32 → limited n ≡ Ok n
 limited_within n h = cond-true (ltb n (2 ^ 32)) (Ok n) (Err OverLimit) (lt-ltb n (2 ^ 32) h)
 
-pub limited_over : (n : ℕ) → 2 ^ 32 ≤ n → limited n ≡ Err OverLimit
+limited_over : (n : ℕ) → 2 ^ 32 ≤ n → limited n ≡ Err OverLimit
 limited_over n h = cond-false (ltb n (2 ^ 32)) (Ok n) (Err OverLimit) (le-ltb n (2 ^ 32) h)
+
+-- a conversion to 32 bits whose failure is told as a fault
+pub limited_by : {E : Type 0} (n : ℕ) (r : Result ℕ E) (told : Result ℕ NumberFault) → OkIff r (n < 2 ^ 32) n → MatchResult r (λ k. told ≡ Ok k) (λ _. told ≡ Err OverLimit) → told ≡ limited n
+limited_by n (Ok k) told h e = e ∙ ap (λ m. Ok m) h.1 ∙ sym (limited_within n h.0)
+limited_by n (Err f) told h e = e ∙ sym (limited_over n (omega (arith, h)))
 
 -- a value over the limit may be held at it
 reading_capped : (v : ℕ) (bs : List ℕ) → reading (min v (2 ^ 32)) bs ≡ reading v bs

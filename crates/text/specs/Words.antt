@@ -1,6 +1,9 @@
 -- The words of a line: the longest runs of bytes that are no blanks. Assumes nothing.
-use Rattle.std.specs.Prelude.{ℕ, Bool, not, ◌||◌, List, [], ◌∷◌, take, drop, Some, None, Option, ◌==◌}
+use Rattle.std.specs.Prelude.{◌≡◌, ℕ, Bool, not, ◌||◌, List, [], ◌∷◌, take, drop, Some, None, Option, ◌==◌}
+use Rattle.std.specs.Borrow.{Bor}
+use Rattle.std.specs.Option.{MatchOption}
 use Rattle.std.specs.List.{prefix_len}
+use Rattle.text.specs.declared.words.Words.{Words}
 
 -- a space, a tab or a carriage return
 abbrev pub blank : ℕ → Bool
@@ -29,3 +32,12 @@ parts (b ∷ bs) = Some (word_of (b ∷ bs), after_word (b ∷ bs))
 -- the first word of a line, and what follows it
 unfoldable pub split : List ℕ → Option (List ℕ × List ℕ)
 split line = parts (from_word line)
+
+-- what is left of the line
+abbrev pub left : Words → List ℕ
+left words = words.rest.now
+
+-- the next word is taken, where there is one
+abbrev pub TakesWord : Words → Option (Bor (List ℕ)) → Words → Type 0
+TakesWord before word after =
+    MatchOption word ((split (left before) ≡ None) × (left after ≡ left before)) (λ w. split (left before) ≡ Some (w.now, left after))

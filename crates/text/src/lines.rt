@@ -5,8 +5,5 @@ ghost use Rattle.text.specs.Lines.{chopped};
 pub fn without_newline(line: &[u8]) -> &[u8]
     ensures { result.now ≡ chopped line.now }
 {
-    match line {
-        [front @ .., b'\n'] => front,
-        _ => line,
-    }
+    line.strip_suffix(b"\n").unwrap_or(line)
 }

@@ -28,14 +28,12 @@ pub fn number(word: &[u8]) -> Result<u32, NumberFault>
         return Err(NumberFault::NotANumber);
     }
     let mut value = 0;
+    // A loop: `value` stays bounded from digit to digit, and `try_fold` takes no invariant that says so.
     for b in word {
         // Once over the limit the value stays there, whatever digits follow.
         value = (value * 10 + digit_value(*b)?).min(PAST);
     }
-    match u32::try_from(value) {
-        Ok(n) => Ok(n),
-        Err(_) => Err(NumberFault::OverLimit),
-    }
+    u32::try_from(value).map_err(|_| NumberFault::OverLimit)
 }
 
 #[cfg(test)]

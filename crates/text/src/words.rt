@@ -1,8 +1,7 @@
 // A line is cut into words: the longest runs of bytes that are no blanks.
-ghost use Rattle.std.specs.Prelude.{◌≡◌, ◌≤◌, length};
-ghost use Rattle.std.specs.Option.{option_map};
-ghost use Rattle.std.specs.List.{prefix_len};
-ghost use Rattle.text.specs.Words.{blank, solid, from_word, split};
+ghost use Rattle.std.specs.Prelude.{◌≡◌, length};
+ghost use Rattle.std.specs.Iterator.{at_most};
+ghost use Rattle.text.specs.Words.{blank, TakesWord, left};
 
 fn is_blank(b: u8) -> bool
     ensures { result ≡ blank b }
@@ -10,48 +9,35 @@ fn is_blank(b: u8) -> bool
     matches!(b, b' ' | b'\t' | b'\r')
 }
 
-// How many blanks the line begins with.
-fn blanks(line: &[u8]) -> usize
-    ensures value { result ≡ prefix_len blank line.now }
-    ensures within { result ≤ length line.now }
-{
-    for (i, b) in line.iter().enumerate() {
-        if !is_blank(*b) {
-            return i;
-        }
-    }
-    line.len()
+// The words of a line, from left to right.
+#[derive(Clone, Drop)]
+pub struct Words<'a> {
+    rest: &'a [u8],
 }
 
-// How many bytes stand before the first blank.
-fn word_length(line: &[u8]) -> usize
-    ensures value { result ≡ prefix_len solid line.now }
-    ensures within { result ≤ length line.now }
-{
-    for (i, b) in line.iter().enumerate() {
-        if is_blank(*b) {
-            return i;
-        }
+impl<'a> Words<'a> {
+    pub fn new(line: &'a [u8]) -> Words<'a>
+        ensures { left result ≡ line.now }
+    {
+        Words { rest: line }
     }
-    line.len()
 }
 
-// The line without the blanks that it begins with.
-fn from_word(line: &[u8]) -> &[u8]
-    ensures { result.now ≡ from_word line.now }
-{
-    &line[blanks(line)..]
-}
+impl<'a> Iterator for Words<'a> {
+    type Item = &'a [u8];
 
-// The first word and what follows it; nothing where the line has no word.
-pub fn split_word(line: &[u8]) -> Option<(&[u8], &[u8])>
-    ensures { option_map (λ p. (p.0.now, p.1.now)) result ≡ split line.now }
-{
-    let start = from_word(line);
-    if start.is_empty() {
-        return None;
+    ghost next_gives = { λ s word t. TakesWord s word t };
+
+    ghost remaining = { λ s. at_most (length s.rest.now) };
+
+    fn next(&mut self) -> Option<&'a [u8]> {
+        let start = self.rest.iter().position(|b| !is_blank(*b))?;
+        let line = &self.rest[start..];
+        let end = line.iter().position(|b| is_blank(*b)).unwrap_or(line.len());
+        let (word, rest) = line.split_at(end);
+        self.rest = rest;
+        Some(word)
     }
-    Some(start.split_at(word_length(start)))
 }
 
 #[cfg(test)]
@@ -61,10 +47,11 @@ mod tests {
 
     #[test]
     fn first_word(rt: HostRuntime) -> Result<(), Fail> {
-        let (word, rest) = split_word(b"\t add 7\r").ok_or("no word")?;
+        let mut words = Words::new(b"\t add 7\r");
+        let word = words.next().ok_or("no word")?;
         assert!(rt; word == b"add".as_slice());
-        assert!(rt; rest == b" 7\r".as_slice());
-        assert!(rt; split_word(b" \t\r").is_none());
+        assert!(rt; words.rest == b" 7\r".as_slice());
+        assert!(rt; Words::new(b" \t\r").next().is_none());
         Ok(())
     }
 }

@@ -1,6 +1,6 @@
-use Rattle.std.proofs.Common.{Ok, sym, ap, ◌∙◌, arith}
+use Rattle.std.proofs.Common.{rules, ◌∙◌, arith}
 use Rattle.std.proofs.lemmas.Result.{err_from_is_err_and}
-use Rattle.text.proofs.Readings.{limited_within, limited_over, number_of_empty, number_of_reading, reading_more, reading_stops, reading_all}
+use Rattle.text.proofs.Readings.{limited_by, number_of_empty, number_of_reading, reading_more, reading_stops, reading_all}
 use Rattle.text.proofs.numbers.number.Goals as goal
 
 pub returns-then-is_empty : goal.returns-then-is_empty
@@ -20,11 +20,6 @@ loop-b-preserved c = (
   reading_more c.args.word.now c.loop-b.value c.loop-b.b-index c.loop-b.invariant.1 _ _ (omega arith) c.in_ok-digit_value.ensures c.min-value.ensures,
 )
 
-pub returns-in-Ok : goal.returns-in-Ok
-returns-in-Ok c =
-    let told = c.in-Ok.ensures in
-    ap (λ n. Ok n) told.1 ∙ sym (limited_within c.loop-b.value told.0) ∙ reading_all c.args.word.now c.loop-b.value c.loop-b.b-index c.loop-b.invariant.1 (omega arith)
-
-pub returns-in-Err : goal.returns-in-Err
-returns-in-Err c =
-    sym (limited_over c.loop-b.value (omega (arith, c.in-Err.ensures))) ∙ reading_all c.args.word.now c.loop-b.value c.loop-b.b-index c.loop-b.invariant.1 (omega arith)
+pub returns : goal.returns
+returns c =
+    limited_by c.loop-b.value c.try_from.result c.map_err.result c.try_from.ensures (search rules) ∙ reading_all c.args.word.now c.loop-b.value c.loop-b.b-index c.loop-b.invariant.1 (omega arith)
