@@ -1,5 +1,6 @@
 pub mod Twins
 pub mod Slots
 pub mod Index
+pub mod Content
 pub mod Searches
 pub mod Tables

@@ -1,6 +1,0 @@
-use Rattle.std.proofs.Common.{◌/◌}
-use Rattle.table.specs.Tables.{Sound}
-use Rattle.table.proofs.tests.the_first_of_two_keys_of_one_value_is_kept.Given as goal
-
-abbrev pub invariant-loop-h : goal.invariant-loop-h
-invariant-loop-h g l = Sound (λ h. h.0 / 2) (λ h. h.0 / 2) l.t
