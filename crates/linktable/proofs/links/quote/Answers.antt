@@ -7,8 +7,9 @@ use Rattle.linktable.specs.Links.{Link, quoted, told_price}
 use Rattle.linktable.proofs.links.quote.Goals as goal
 
 pub value_at-requires : goal.value_at-requires
-value_at-requires c =
-    found_within _ c.args.links.now.entries c.in-Ok.place (found_place _ _ _ (sym c.in-Ok.is ∙ c.find.ensures))
+value_at-requires c = record {
+  place = found_within _ c.args.links.now.entries c.in-Ok.place (found_place _ _ _ (sym c.in-Ok.is ∙ c.find.ensures));
+}
 
 pub returns-in-Ok : goal.returns-in-Ok
 returns-in-Ok c =
