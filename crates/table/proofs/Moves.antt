@@ -4,7 +4,6 @@ use Rattle.std.proofs.lemmas.List.{map-set, length-map, get_or-map, get_or-set_s
 use Rattle.std.proofs.lemmas.Bool.{cases_eq}
 use Rattle.lists.specs.Chains.{Chains}
 use Rattle.lists.proofs.Chains.{agreeing}
-use Rattle.table.specs.declared.slot.Twin.{Twin}
 use Rattle.table.specs.declared.slot.Slot.{Slot}
 use Rattle.table.specs.Slots.{pairs, headed, nexts, marked, at, two, none}
 use Rattle.table.specs.Index.{home, homes, mark, tags, bit_of, off, capacity_of, bucket_of, Marked, Indexed}
@@ -38,7 +37,7 @@ module _ {K V : Type 0} (g : ℕ) (es es' : List (K × V)) (e : K × V) (is : es
   other_tag hashed i ne = other_part (λ k. mark (hashed k)) i ne
 
   -- the chains without g do not change
-  pub moved_off : (hashed : K → ℕ) (cap cap' n : ℕ) (fs fs' : List (Twin ℕ)) (ns ns' : List ℕ) → cap' ≡ cap → fs' ≡ fs → ns' ≡ ns
+  pub moved_off : (hashed : K → ℕ) (cap cap' n : ℕ) (fs fs' : List (List ℕ)) (ns ns' : List ℕ) → cap' ≡ cap → fs' ≡ fs → ns' ≡ ns
       → Chains none (2 * cap) n (off (2 * cap) g (at (homes hashed cap es))) (two fs) (at ns)
       → Chains none (2 * cap') n (off (2 * cap') g (at (homes hashed cap' es'))) (two fs') (at ns')
   moved_off hashed cap cap' n fs fs' ns ns' ec ef en L =

@@ -1,4 +1,3 @@
-pub mod Twins
 pub mod Slots
 pub mod Index
 pub mod Content

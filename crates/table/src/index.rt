@@ -8,7 +8,7 @@ ghost use Rattle.table.specs.Tables.{vacancy};
 use crate::chain::{link, unlink};
 use crate::slot::{
     NONE, Slot, head_of, key_of, marks_of, next_of, set_head, set_marks, set_next, set_pair,
-    vacate, value_of,
+    value_of,
 };
 use crate::table::Vacancy;
 use keys::order::{Compare, NodeTrait, same};
@@ -49,8 +49,8 @@ pub(crate) fn reset<K: Copy, V: Copy>(slots: &mut [Slot<K, V>])
     ensures { (b : ℕ) → b < 2 * capacity_of slots.new → two (headed slots.new) b ≡ none }
 {
     let n = capacity_of(slots);
-    for i in 0..n {
-        vacate(slots, i);
+    for slot in &mut slots[..n] {
+        slot.vacate();
     }
 }
 
