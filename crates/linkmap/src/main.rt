@@ -2,9 +2,6 @@
 // answers it with what was done.
 #![tactic(auto)]
 
-ghost use Rattle.table.specs.Tables.{Sound};
-ghost use Rattle.linktable.specs.Links.{key_value, key_hash};
-
 use anyhow::anyhow;
 use commands::command::Command;
 use commands::faults::Complaint;
@@ -21,7 +18,6 @@ use text::lines::without_newline;
 
 // Each place with its link.
 fn list(rt: &impl Print, links: &Links<'_>) -> io::Result<()>
-    requires sound { Sound key_value key_hash links.now }
 {
     for place in 0..links.len() {
         if let Some(line) = line_at(links, place) {
@@ -33,8 +29,6 @@ fn list(rt: &impl Print, links: &Links<'_>) -> io::Result<()>
 
 // Answers the line that is the `number`-th of the input.
 fn answer(rt: &impl Print, links: &mut Links<'_>, number: u64, line: &[u8]) -> io::Result<()>
-    requires sound { Sound key_value key_hash links.old }
-    ensures sound { Sound key_value key_hash links.new }
 {
     match parse(line) {
         Ok(None) => Ok(()),

@@ -1,7 +1,6 @@
 ghost use Rattle.std.specs.Prelude.{◌≡◌, ◌<◌, length};
-ghost use Rattle.table.specs.Tables.{Sound, entries, capacity};
 ghost use Rattle.keys.specs.Hashes.{spread_of, pair_hash};
-ghost use Rattle.linktable.specs.Links.{place_of, added, quoted, removed, performed, listed, key_value, key_hash};
+ghost use Rattle.linktable.specs.Links.{place_of, added, quoted, removed, performed, listed};
 ghost use Rattle.std.specs.List.{slice_get};
 
 use commands::answers::{Answer, Line};
@@ -15,10 +14,8 @@ use table::table::Table;
 pub type Links<'a> = Table<'a, (Account, Account), Price>;
 
 fn add(links: &mut Links<'_>, from: Account, to: Account, price: Price) -> Answer
-    requires sound { Sound key_value key_hash links.old }
-    ensures sound { Sound key_value key_hash links.new }
-    ensures done { (result, entries links.new) ≡ added (capacity links.old) (entries links.old) from to price (place_of (entries links.old) from to) }
-    ensures room { capacity links.new ≡ capacity links.old }
+    ensures done { (result, links.new.entries) ≡ added links.old.room links.old.entries from to price (place_of links.old.entries from to) }
+    ensures room { links.new.room ≡ links.old.room }
 {
     match links.find(&(from, to)) {
         Ok(place) => match links.set_value(place, price) {
@@ -33,8 +30,7 @@ fn add(links: &mut Links<'_>, from: Account, to: Account, price: Price) -> Answe
 }
 
 fn quote(links: &Links<'_>, from: Account, to: Account) -> Answer
-    requires sound { Sound key_value key_hash links.now }
-    ensures { result ≡ quoted (entries links.now) (place_of (entries links.now) from to) }
+    ensures { result ≡ quoted links.now.entries (place_of links.now.entries from to) }
 {
     match links.find(&(from, to)) {
         Ok(place) => Answer::Quoted {
@@ -46,10 +42,8 @@ fn quote(links: &Links<'_>, from: Account, to: Account) -> Answer
 }
 
 fn remove(links: &mut Links<'_>, from: Account, to: Account) -> Answer
-    requires sound { Sound key_value key_hash links.old }
-    ensures sound { Sound key_value key_hash links.new }
-    ensures done { (result, entries links.new) ≡ removed (entries links.old) (place_of (entries links.old) from to) }
-    ensures room { capacity links.new ≡ capacity links.old }
+    ensures done { (result, links.new.entries) ≡ removed links.old.entries (place_of links.old.entries from to) }
+    ensures room { links.new.room ≡ links.old.room }
 {
     let Ok(place) = links.find(&(from, to)) else {
         return Answer::Nothing;
@@ -70,10 +64,8 @@ fn remove(links: &mut Links<'_>, from: Account, to: Account) -> Answer
 
 /// Carries out a command: its answer, and the links then.
 pub fn perform(links: &mut Links<'_>, command: Command) -> Answer
-    requires sound { Sound key_value key_hash links.old }
-    ensures sound { Sound key_value key_hash links.new }
-    ensures done { (result, entries links.new) ≡ performed (capacity links.old) (entries links.old) command }
-    ensures room { capacity links.new ≡ capacity links.old }
+    ensures done { (result, links.new.entries) ≡ performed links.old.room links.old.entries command }
+    ensures room { links.new.room ≡ links.old.room }
 {
     match command {
         Command::Add { from, to, price } => add(links, from, to, price),
@@ -90,8 +82,7 @@ pub fn perform(links: &mut Links<'_>, command: Command) -> Answer
 
 /// The link at a place as a line of the list; none from the end on.
 pub fn line_at(links: &Links<'_>, place: usize) -> Option<Line>
-    requires sound { Sound key_value key_hash links.now }
-    ensures { result ≡ listed place (slice_get (entries links.now) place) }
+    ensures { result ≡ listed place (slice_get links.now.entries place) }
 {
     if place >= links.len() {
         return None;

@@ -5,7 +5,7 @@ use Rattle.std.proofs.lemmas.Bool.{cases_eq, cases_lt}
 use Rattle.lists.specs.Swap.{swap_removed}
 use Rattle.lists.proofs.Swap.{length_swap_removed, swap_removed_at, swap_removed_other}
 use Rattle.table.specs.Searches.{Absent}
-use Rattle.table.specs.Tables.{Apart}
+use Rattle.table.specs.Content.{Apart}
 
 pub apart_push : {K V W : Type 0} (value : K → W) (es : List (K × V)) (k : K) (v : V) → Apart value es → Absent value es k
     → Apart value (es ++ (k, v) ∷ [])

@@ -1,5 +1,6 @@
 pub mod Apart
 pub mod Capacity
+pub mod Entries
 pub mod Homes
 pub mod Lists
 pub mod Marks

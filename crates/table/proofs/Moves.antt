@@ -4,11 +4,11 @@ use Rattle.std.proofs.lemmas.List.{map-set, length-map, get_or-map, get_or-set_s
 use Rattle.std.proofs.lemmas.Bool.{cases_eq}
 use Rattle.lists.specs.Chains.{Chains}
 use Rattle.lists.proofs.Chains.{agreeing}
-use Rattle.table.specs.declared.slot.Twin.{Twin}
 use Rattle.table.specs.declared.slot.Slot.{Slot}
-use Rattle.table.specs.Slots.{pairs, marked, at, two, none}
-use Rattle.table.specs.Index.{home, homes, mark, tags, bit_of, off, capacity_of, bucket_of, Marked}
-use Rattle.table.proofs.Writes.{off_here, off_other, same_capacity, same_bucket}
+use Rattle.table.specs.Slots.{pairs, headed, nexts, marked, at, two, none}
+use Rattle.table.specs.Index.{home, homes, mark, tags, bit_of, off, capacity_of, bucket_of, Marked, Indexed}
+use Rattle.table.proofs.Lists.{kept}
+use Rattle.table.proofs.Writes.{rechained, remarked, off_here, off_other, same_capacity, same_bucket}
 
 -- the entry e is written at place g
 module _ {K V : Type 0} (g : ℕ) (es es' : List (K × V)) (e : K × V) (is : es' ≡ set es g e) where
@@ -37,7 +37,7 @@ module _ {K V : Type 0} (g : ℕ) (es es' : List (K × V)) (e : K × V) (is : es
   other_tag hashed i ne = other_part (λ k. mark (hashed k)) i ne
 
   -- the chains without g do not change
-  pub moved_off : (hashed : K → ℕ) (cap cap' n : ℕ) (fs fs' : List (Twin ℕ)) (ns ns' : List ℕ) → cap' ≡ cap → fs' ≡ fs → ns' ≡ ns
+  pub moved_off : (hashed : K → ℕ) (cap cap' n : ℕ) (fs fs' : List (List ℕ)) (ns ns' : List ℕ) → cap' ≡ cap → fs' ≡ fs → ns' ≡ ns
       → Chains none (2 * cap) n (off (2 * cap) g (at (homes hashed cap es))) (two fs) (at ns)
       → Chains none (2 * cap') n (off (2 * cap') g (at (homes hashed cap' es'))) (two fs') (at ns')
   moved_off hashed cap cap' n fs fs' ns ns' ec ef en L =
@@ -100,3 +100,25 @@ marked_moved {K} {V} hashed xs ys n g M gn nl ep em el i lt =
           from i (kept_part (λ k. home cap (hashed k)) (pairs xs) (pairs ys) g n ep in_g i ne)
           (kept_part (λ k. mark (hashed k)) (pairs xs) (pairs ys) g n ep in_g i ne) (omega arith)
     ]
+
+-- the index of entries of which one has another value under its key
+pub indexed_set : {K V : Type 0} (hashed : K → ℕ) (xs ys : List (Slot K V)) (n i : ℕ) (k : K) (v : V) → Indexed hashed xs n
+    → ((d : K × V) → k ≡ (get_or (pairs xs) i d).0) → length ys ≡ length xs
+    → pairs ys ≡ set (pairs xs) i (k, v) → headed ys ≡ headed xs → nexts ys ≡ nexts xs → marked ys ≡ marked xs → Indexed hashed ys n
+indexed_set {K} {V} hashed xs ys n i k v I key el ep eh en em =
+    let cap : capacity_of ys ≡ capacity_of xs = same_capacity xs ys el in
+    let same : (part : K → ℕ) → map (λ (e : K × V). part e.0) (pairs ys) ≡ map (λ (e : K × V). part e.0) (pairs xs) =
+    λ part.
+    ap (map (λ (e : K × V). part e.0)) ep
+    ∙ kept (λ (e : K × V). part e.0) (pairs xs) i (k, v) (k, v) (ap part (key (k, v))) in
+    let hs : homes hashed (capacity_of ys) (pairs ys) ≡ homes hashed (capacity_of xs) (pairs xs) =
+    ap (λ z. homes hashed z (pairs ys)) cap ∙ same (λ z. home (capacity_of xs) (hashed z)) in
+    record {
+      fits = omega (arith, I.fits);
+      chained =
+          rechained (capacity_of xs) (capacity_of ys) n (homes hashed (capacity_of xs) (pairs xs)) (homes hashed (capacity_of ys) (pairs ys)) (headed xs) (headed ys) (nexts xs) (nexts ys)
+          cap hs eh en I.chained;
+      marks =
+          remarked n (homes hashed (capacity_of xs) (pairs xs)) (homes hashed (capacity_of ys) (pairs ys)) (tags hashed (pairs xs)) (tags hashed (pairs ys)) (marked xs) (marked ys)
+          hs (same (λ z. mark (hashed z))) em I.marks;
+    }

@@ -1,6 +1,6 @@
 -- A search for a key down the chain of its bucket.
 use Rattle.std.proofs.Common.{◌≡◌, ℕ, ◌<◌, ◌≤◌, true, false, List, [], ◌∷◌, map, length, get_or, take, Some, None, Ok, Err, Option, Ordering, sym, refl, ap, ◌∙◌, inl, inr, arith}
-use Rattle.std.proofs.lemmas.List.{length-take-le, length-map, get_or-take, get_or-map}
+use Rattle.std.proofs.lemmas.List.{length-map, get_or-map}
 use Rattle.std.proofs.lemmas.Bool.{cases_lt, cases_Bool, both_ways}
 use Rattle.std.specs.Ordering.{is_eq}
 use Rattle.keys.specs.Order.{Laws, alike}
@@ -9,59 +9,45 @@ use Rattle.lists.specs.Latest.{latest}
 use Rattle.lists.proofs.Latest.{latest_covers}
 use Rattle.table.specs.declared.slot.Slot.{Slot}
 use Rattle.table.specs.Slots.{pairs, at, none}
-use Rattle.table.specs.Index.{home, homes, mark, tags, bit_of}
+use Rattle.table.specs.Index.{home, mark, tags, bit_of, capacity_of, bucket_of, Indexed}
+use Rattle.table.proofs.Entries.{in_memory, length_entries, entry_at}
+use Rattle.table.specs.Content.{Apart}
 use Rattle.lists.specs.Positions.{position}
 use Rattle.lists.proofs.Positions.{position_at, position_none, none_passes}
 use Rattle.table.specs.declared.table.Vacancy.{Vacancy}
 use Rattle.table.specs.Searches.{Absent, Present, Unseen}
-use Rattle.table.specs.Tables.{Apart, vacancy, found, sought}
-
--- the entries of a slice, by place
-module _ {K V : Type 0} (xs : List (Slot K V)) (len : ℕ) (fits : len ≤ length xs) where
-  pub length_entries : length (take len (pairs xs)) ≡ len
-  length_entries = length-take-le len (pairs xs) (simp length-map fits)
-
-  pub entry_at : (i : ℕ) (d : K × V) → i < len → get_or (take len (pairs xs)) i d ≡ get_or (pairs xs) i d
-  entry_at i d lt = get_or-take len (pairs xs) i d lt
+use Rattle.table.specs.Tables.{vacancy, found, sought}
 
 -- what follows from the value of a key, where an entry has it
-part_of_same : {K V W : Type 0} (value : K → W) (part : K → ℕ) (xs : List (Slot K V)) (len p : ℕ) → len ≤ length xs → (k : K)
-    → ((j : K) → value j ≡ value k → part j ≡ p) → (i : ℕ) (d : K × V) → i < len
-    → value (get_or (take len (pairs xs)) i d).0 ≡ value k → at (map (λ e. part e.0) (pairs xs)) i ≡ p
-part_of_same {K} {V} value part xs len p fits k by_value i d lt e =
-    get_or-map (λ (z : K × V). part z.0) (pairs xs) i d 0 (simp length-map (omega arith))
-    ∙ by_value _ (sym (ap (λ (z : K × V). value z.0) (entry_at xs len fits i d lt)) ∙ e)
+module _ {K V W : Type 0} (value : K → W) {hashed : K → ℕ} {xs : List (Slot K V)} {len : ℕ} (I : Indexed hashed xs len) (k : K) where
+  part_of_same : (part : K → ℕ) (p : ℕ) → ((j : K) → value j ≡ value k → part j ≡ p) → (i : ℕ) (d : K × V) → i < len
+      → value (get_or (take len (pairs xs)) i d).0 ≡ value k → at (map (λ e. part e.0) (pairs xs)) i ≡ p
+  part_of_same part p by_value i d lt e =
+      get_or-map (λ (z : K × V). part z.0) (pairs xs) i d 0 (simp length-map (omega (arith, in_memory I)))
+      ∙ by_value _ (sym (ap (λ (z : K × V). value z.0) (entry_at I i d lt)) ∙ e)
 
-pub tag_of_same : {K V W : Type 0} (value : K → W) (hashed : K → ℕ) (xs : List (Slot K V)) (len m : ℕ) → len ≤ length xs → (k : K)
-    → ((j : K) → value j ≡ value k → mark (hashed j) ≡ m) → (i : ℕ) (d : K × V) → i < len
-    → value (get_or (take len (pairs xs)) i d).0 ≡ value k → at (tags hashed (pairs xs)) i ≡ m
-tag_of_same value hashed xs len m fits k by_value i d lt e = part_of_same value (λ j. mark (hashed j)) xs len m fits k by_value i d lt e
+  -- such an entry has the key's mark
+  pub tag_of_same : (m : ℕ) → ((j : K) → value j ≡ value k → mark (hashed j) ≡ m) → (i : ℕ) (d : K × V) → i < len
+      → value (get_or (take len (pairs xs)) i d).0 ≡ value k → at (tags hashed (pairs xs)) i ≡ m
+  tag_of_same m by_value i d lt e = part_of_same (λ j. mark (hashed j)) m by_value i d lt e
 
-module _ {K V W : Type 0} (value : K → W) (hashed : K → ℕ) (xs : List (Slot K V)) (len cap b : ℕ) (fits : len ≤ length xs) (k : K)
-    (by_value : (j : K) → value j ≡ value k → home cap (hashed j) ≡ b) where
-  -- an entry with the key's value is in the key's bucket
-  pub home_of_same : (i : ℕ) (d : K × V) → i < len → value (get_or (take len (pairs xs)) i d).0 ≡ value k
-      → at (homes hashed cap (pairs xs)) i ≡ b
-  home_of_same i d lt e =
-      part_of_same value (λ j. home cap (hashed j)) xs len b fits k by_value i d lt e
+  module _ (b : ℕ) (by_value : (j : K) → value j ≡ value k → home (capacity_of xs) (hashed j) ≡ b) where
+    -- and is in the key's bucket
+    pub home_of_same : (i : ℕ) (d : K × V) → i < len → value (get_or (take len (pairs xs)) i d).0 ≡ value k
+        → bucket_of hashed xs i ≡ b
+    home_of_same i d lt e = part_of_same (λ j. home (capacity_of xs) (hashed j)) b by_value i d lt e
 
-  -- from the place of the link on, the key was not seen but perhaps there
-  pub unseen_past : (p link : ℕ) → p ≤ len → link ≡ latest none (at (homes hashed cap (pairs xs))) b p
-      → Unseen value (take len (pairs xs)) k p → (i : ℕ) (d : K × V) → i < len
-      → value (get_or (take len (pairs xs)) i d).0 ≡ value k → (link < p) × (i ≤ link)
-  unseen_past p link pl el seen i d lt e =
-      elim (cases_lt i p) [
-        | inl ip ↦
-            let r = latest_covers none (at (homes hashed cap (pairs xs))) b p i ip (home_of_same i d lt e) in
-            (omega (arith, r.0), omega (arith, r.1))
-        | inr ge ↦ absurd (seen i d ge (omega (arith, length_entries xs len fits)) e)
-      ]
-
--- the key at a place is the slot's
-pub key_of_slot : {K V : Type 0} (xs : List (Slot K V)) (len : ℕ) → len ≤ length xs → (i : ℕ) (s : Slot K V) (d : K × V) → i < len
-    → (get_or (take len (pairs xs)) i d).0 ≡ (get_or xs i s).key
-key_of_slot {K} {V} xs len fits i s d lt =
-    ap (λ (z : K × V). z.0) (entry_at xs len fits i d lt ∙ get_or-map (λ (z : Slot K V). (z.key, z.value)) xs i s d (omega arith))
+    -- from the place of the link on, the key was not seen but perhaps there
+    pub unseen_past : (p link : ℕ) → p ≤ len → link ≡ latest none (bucket_of hashed xs) b p
+        → Unseen value (take len (pairs xs)) k p → (i : ℕ) (d : K × V) → i < len
+        → value (get_or (take len (pairs xs)) i d).0 ≡ value k → (link < p) × (i ≤ link)
+    unseen_past p link pl el seen i d lt e =
+        elim (cases_lt i p) [
+          | inl ip ↦
+              let r = latest_covers none (bucket_of hashed xs) b p i ip (home_of_same i d lt e) in
+              (omega (arith, r.0), omega (arith, r.1))
+          | inr ge ↦ absurd (seen i d ge (omega (arith, length_entries I)) e)
+        ]
 
 -- equal by test is equal by value, and not by test is not
 module _ {W : Type 0} (order : W → W → Ordering) (laws : Laws order) where

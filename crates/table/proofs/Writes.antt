@@ -1,7 +1,6 @@
 -- A write to a holder, and what it leaves of the chains.
 use Rattle.std.proofs.Common.{◌≡◌, ℕ, ◌*◌, ◌<◌, ◌≤◌, min, eqb, List, length, set, sym, refl, ap, ◌∙◌, inl, inr, arith}
 use Rattle.lists.specs.Chains.{Above, Put, Chains}
-use Rattle.table.specs.declared.slot.Twin.{Twin}
 use Rattle.table.specs.declared.slot.Slot.{Slot}
 use Rattle.table.specs.Slots.{pairs, at, two, none, TwoSet}
 use Rattle.std.proofs.lemmas.Bool.{cases_eq, cond-true, cond-false, eq-eqb, ne_eqb}
@@ -9,10 +8,10 @@ use Rattle.lists.specs.Latest.{latest}
 use Rattle.table.specs.Index.{homes, bit_of, off, held, capacity_of, bucket_of}
 use Rattle.table.proofs.Lists.{at_set, at_other, at_same}
 
-pub two_same : (l l' : List (Twin ℕ)) → l' ≡ l → (b : ℕ) → two l' b ≡ two l b
+pub two_same : (l l' : List (List ℕ)) → l' ≡ l → (b : ℕ) → two l' b ≡ two l b
 two_same l l' e b = ap (λ z. two z b) e
 
-pub put_head : (n b p v : ℕ) (fs fs' : List (Twin ℕ)) (ns ns' : List ℕ) → p ≡ n → TwoSet b v fs fs' → ns' ≡ ns
+pub put_head : (n b p v : ℕ) (fs fs' : List (List ℕ)) (ns ns' : List ℕ) → p ≡ n → TwoSet b v fs fs' → ns' ≡ ns
     → Put n b p v (two fs) (at ns) (two fs') (at ns')
 put_head n b p v fs fs' ns ns' pn S en = record {
   head = λ _. S.here;
@@ -21,7 +20,7 @@ put_head n b p v fs fs' ns ns' pn S en = record {
   links = λ i _. at_same ns ns' en i;
 }
 
-pub put_link : (n b p v : ℕ) (fs fs' : List (Twin ℕ)) (ns ns' : List ℕ) → p < n → p < length ns → fs' ≡ fs → ns' ≡ set ns p v
+pub put_link : (n b p v : ℕ) (fs fs' : List (List ℕ)) (ns ns' : List ℕ) → p < n → p < length ns → fs' ≡ fs → ns' ≡ set ns p v
     → Put n b p v (two fs) (at ns) (two fs') (at ns')
 put_link n b p v fs fs' ns ns' pn lt ef en = record {
   head = λ q. let no : ⊥ = omega arith in absurd no;
@@ -69,7 +68,7 @@ above_off buckets n b g p h A = record {
 }
 
 -- the same write, from heads that are equal as lists
-pub put_after : (n b p v : ℕ) (fs fs₀ : List (Twin ℕ)) (x f' x' : ℕ → ℕ) → fs₀ ≡ fs → Put n b p v (two fs₀) x f' x' → Put n b p v (two fs) x f' x'
+pub put_after : (n b p v : ℕ) (fs fs₀ : List (List ℕ)) (x f' x' : ℕ → ℕ) → fs₀ ≡ fs → Put n b p v (two fs₀) x f' x' → Put n b p v (two fs) x f' x'
 put_after n b p v fs fs₀ x f' x' e P = rw (sym e) P
 
 -- the same entries hang in the same buckets
@@ -83,14 +82,14 @@ pub relinked : (buckets n : ℕ) (h f : ℕ → ℕ) (ns ns' : List ℕ) → ns'
 relinked buckets n h f ns ns' e L = rw e L
 
 -- and from heads that are
-pub reheaded : (buckets n : ℕ) (h x : ℕ → ℕ) (fs fs' : List (Twin ℕ)) → fs' ≡ fs → Chains none buckets n h (two fs) x → Chains none buckets n h (two fs') x
+pub reheaded : (buckets n : ℕ) (h x : ℕ → ℕ) (fs fs' : List (List ℕ)) → fs' ≡ fs → Chains none buckets n h (two fs) x → Chains none buckets n h (two fs') x
 reheaded buckets n h x fs fs' e L = rw e L
 
 -- the same chains and the same marks, from parts that are equal as lists
-pub rechained : (cap cap' n : ℕ) (hs hs' : List ℕ) (fs fs' : List (Twin ℕ)) (ns ns' : List ℕ) → cap' ≡ cap → hs' ≡ hs → fs' ≡ fs → ns' ≡ ns
+pub rechained : (cap cap' n : ℕ) (hs hs' : List ℕ) (fs fs' : List (List ℕ)) (ns ns' : List ℕ) → cap' ≡ cap → hs' ≡ hs → fs' ≡ fs → ns' ≡ ns
     → Chains none (2 * cap) n (at hs) (two fs) (at ns) → Chains none (2 * cap') n (at hs') (two fs') (at ns')
 rechained cap cap' n hs hs' fs fs' ns ns' ec eh ef en L = rw (ec, eh, ef, en) L
 
-pub remarked : (n : ℕ) (hs hs' ts ts' : List ℕ) (ms ms' : List (Twin ℕ)) → hs' ≡ hs → ts' ≡ ts → ms' ≡ ms
+pub remarked : (n : ℕ) (hs hs' ts ts' : List ℕ) (ms ms' : List (List ℕ)) → hs' ≡ hs → ts' ≡ ts → ms' ≡ ms
     → ((i : ℕ) → i < n → bit_of (two ms (at hs i)) (at ts i) ≡ 1) → (i : ℕ) → i < n → bit_of (two ms' (at hs' i)) (at ts' i) ≡ 1
 remarked n hs hs' ts ts' ms ms' eh et em M i lt = rw (eh, et, em) (M i lt)

@@ -1,5 +1,5 @@
 -- The index of a table: each place hangs in the chain of its key's bucket.
-use Rattle.std.specs.Prelude.{◌≡◌, ℕ, ◌*◌, ◌/◌, ◌%◌, ◌^◌, ◌<◌, min, cond, List, map, length, ◌==◌}
+use Rattle.std.specs.Prelude.{◌≡◌, ℕ, ◌*◌, ◌/◌, ◌%◌, ◌^◌, ◌<◌, ◌≤◌, min, cond, List, map, length, ◌==◌}
 use Rattle.lists.specs.Chains.{Chains, ChainsBut}
 use Rattle.table.specs.declared.slot.Slot.{Slot}
 use Rattle.table.specs.Slots.{pairs, nexts, headed, marked, at, two, none}
@@ -55,3 +55,9 @@ held n first next b p = cond (p == n) (first b) (next p)
 abbrev pub Marked : {K V : Type 0} → (K → ℕ) → List (Slot K V) → ℕ → Type 0
 Marked hashed xs n =
     (i : ℕ) → i < n → bit_of (two (marked xs) (bucket_of hashed xs i)) (at (tags hashed (pairs xs)) i) ≡ 1
+
+-- what is true of a table's slots: its entries fit, and each hangs in its chain and has its mark
+pub record Indexed {K V : Type 0} (hashed : K → ℕ) (xs : List (Slot K V)) (n : ℕ) : Type 0 where
+  pub fits : n ≤ capacity_of xs
+  pub chained : Chained hashed xs n
+  pub marks : Marked hashed xs n

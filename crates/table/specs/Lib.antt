@@ -1,5 +1,5 @@
-pub mod Twins
 pub mod Slots
 pub mod Index
+pub mod Content
 pub mod Searches
 pub mod Tables

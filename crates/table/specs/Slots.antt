@@ -1,8 +1,6 @@
 -- What a slice of slots stands for: four lists, one for each part.
-use Rattle.std.specs.Prelude.{◌≡◌, ℕ, ◌/◌, ◌%◌, List, map, ◌≢◌, slice_index, slice_index_or}
+use Rattle.std.specs.Prelude.{◌≡◌, ℕ, ◌/◌, ◌%◌, List, [], ◌∷◌, map, ◌≢◌, slice_index, slice_index_or}
 use Rattle.table.specs.declared.slot.Slot.{Slot}
-use Rattle.table.specs.declared.slot.Twin.{Twin}
-use Rattle.table.specs.Twins.{side_of}
 
 abbrev pub pairs : {K V : Type 0} → List (Slot K V) → List (K × V)
 pairs xs = map (λ s. (s.key, s.value)) xs
@@ -10,15 +8,15 @@ pairs xs = map (λ s. (s.key, s.value)) xs
 abbrev pub nexts : {K V : Type 0} → List (Slot K V) → List ℕ
 nexts xs = map (λ s. s.next) xs
 
-abbrev pub headed : {K V : Type 0} → List (Slot K V) → List (Twin ℕ)
+abbrev pub headed : {K V : Type 0} → List (Slot K V) → List (List ℕ)
 headed xs = map (λ s. s.heads) xs
 
-abbrev pub marked : {K V : Type 0} → List (Slot K V) → List (Twin ℕ)
+abbrev pub marked : {K V : Type 0} → List (Slot K V) → List (List ℕ)
 marked xs = map (λ s. s.marks) xs
 
 -- a slot that no table has used
 abbrev pub fresh_slot : {K V : Type 0} → K → V → Slot K V
-fresh_slot k v = record { key = k; value = v; heads = record { even = 0; odd = 0 }; next = 0; marks = record { even = 0; odd = 0 } }
+fresh_slot k v = record { key = k; value = v; heads = 0 ∷ 0 ∷ []; next = 0; marks = 0 ∷ 0 ∷ [] }
 
 -- the link of a chain that ends: no place is as large
 abbrev pub none : ℕ
@@ -29,10 +27,10 @@ abbrev pub at : List ℕ → ℕ → ℕ
 at l i = slice_index l i
 
 -- what bucket b has, where each slot has the numbers of two buckets
-abbrev pub two : List (Twin ℕ) → ℕ → ℕ
-two l b = side_of (slice_index_or l (b / 2) (record { even = 0; odd = 0 })) (b % 2)
+abbrev pub two : List (List ℕ) → ℕ → ℕ
+two l b = at (slice_index_or l (b / 2) []) (b % 2)
 
 -- v becomes what bucket b has, and the other buckets keep what they have
-pub record TwoSet (b v : ℕ) (l l' : List (Twin ℕ)) : Type 0 where
+pub record TwoSet (b v : ℕ) (l l' : List (List ℕ)) : Type 0 where
   pub here : two l' b ≡ v
   pub there : (c : ℕ) → (c ≢ b) → two l' c ≡ two l c

@@ -1,35 +1,13 @@
--- What a table stands for, when it is sound, and what each call answers and leaves.
-use Rattle.std.specs.Prelude.{ℕ, ◌-◌, ◌<◌, ◌≤◌, cond, List, [], ◌∷◌, ◌++◌, length, take, Some, None, Ok, Err, Option, Result, ◌≢◌, nat_lt, slice_index_or, slice_set}
+-- What each call answers and leaves.
+use Rattle.std.specs.Prelude.{ℕ, ◌-◌, cond, List, [], ◌∷◌, ◌++◌, length, take, Some, None, Ok, Err, Option, Result, nat_lt, slice_set}
 use Rattle.std.specs.declared.cmp.Ordering.{Ordering}
 use Rattle.std.specs.List.{slice_get}
 use Rattle.keys.specs.Order.{alike}
 use Rattle.lists.specs.Positions.{position}
 use Rattle.lists.specs.Swap.{swap_removed}
-use Rattle.table.specs.declared.table.Table.{Table}
 use Rattle.table.specs.declared.table.Vacancy.{Vacancy}
 use Rattle.table.specs.declared.table.Taken.{Taken}
-use Rattle.table.specs.Slots.{pairs}
-use Rattle.table.specs.Index.{capacity_of, home, mark, Chained, Marked}
-
--- the entries in the order of their places
-abbrev pub entries : {K V : Type 0} → Table K V → List (K × V)
-entries t = take t.len (pairs t.slots.now)
-
--- how many entries there is room for
-abbrev pub capacity : {K V : Type 0} → Table K V → ℕ
-capacity t = capacity_of t.slots.now
-
--- the key at each place has a value of its own
-abbrev pub Apart : {K V W : Type 0} → (K → W) → List (K × V) → Type 0
-Apart {K} {V} value es =
-    (i j : ℕ) (d : K × V) → i < j → j < length es → value (slice_index_or es i d).0 ≢ value (slice_index_or es j d).0
-
--- what every call asks and gives back: the entries fit, the index is theirs, and their keys are apart
-pub record Sound {K V W : Type 0} (value : K → W) (hashed : K → ℕ) (t : Table K V) : Type 0 where
-  pub fits : t.len ≤ capacity t
-  pub chained : Chained hashed t.slots.now t.len
-  pub marks : Marked hashed t.slots.now t.len
-  pub apart : Apart value (entries t)
+use Rattle.table.specs.Index.{home, mark}
 
 -- where a key that is not there would go: it follows from its hash
 abbrev pub vacancy : ℕ → ℕ → Vacancy

@@ -1,14 +1,14 @@
 ghost use Rattle.std.specs.Prelude.{◌≡◌, ℕ, ◌+◌, ◌-◌, ◌*◌, ◌<◌, ◌≤◌, length, take, MatchOption, slice_index_or, slice_set};
 ghost use Rattle.lists.specs.Swap.{swap_removed};
 ghost use Rattle.table.specs.Slots.{pairs, headed, marked, two, none};
-ghost use Rattle.table.specs.Index.{capacity_of, home, mark, bucket_of, Chained, Marked};
+ghost use Rattle.table.specs.Index.{capacity_of, home, mark, bucket_of, Chained, Indexed};
 ghost use Rattle.table.specs.Searches.{Absent, Present};
 ghost use Rattle.table.specs.Tables.{vacancy};
 
 use crate::chain::{link, unlink};
 use crate::slot::{
     NONE, Slot, head_of, key_of, marks_of, next_of, set_head, set_marks, set_next, set_pair,
-    vacate, value_of,
+    value_of,
 };
 use crate::table::Vacancy;
 use keys::nodes::NodeTrait;
@@ -49,15 +49,14 @@ pub(crate) fn reset<K: Copy, V: Copy>(slots: &mut [Slot<K, V>])
     ensures { (b : ℕ) → b < 2 * capacity_of slots.new → two (headed slots.new) b ≡ none }
 {
     let n = capacity_of(slots);
-    for i in 0..n {
-        vacate(slots, i);
+    for slot in &mut slots[..n] {
+        slot.vacate();
     }
 }
 
 // Empties the buckets of the first `len` places.
 pub(crate) fn release<K: NodeTrait, V: Copy>(slots: &mut [Slot<K, V>], len: usize)
-    requires fits { len ≤ capacity_of slots.old }
-    requires chained { Chained K.hashed slots.old len }
+    requires { Indexed K.hashed slots.old len }
     ensures { (b : ℕ) → b < 2 * capacity_of slots.new → two (headed slots.new) b ≡ none }
 {
     for i in 0..len {
@@ -69,8 +68,7 @@ pub(crate) fn release<K: NodeTrait, V: Copy>(slots: &mut [Slot<K, V>], len: usiz
 
 // The place of the key with `k`'s value, by the chain of its bucket `b`.
 fn trace<K: NodeTrait, V: Copy>(slots: &[Slot<K, V>], len: usize, k: &K, b: usize) -> Option<usize>
-    requires fits { len ≤ capacity_of slots.now }
-    requires chained { Chained K.hashed slots.now len }
+    requires indexed { Indexed K.hashed slots.now len }
     requires bucket { b < 2 * capacity_of slots.now }
     requires hashed { (j : K) → K.value j ≡ K.value k.now → home (capacity_of slots.now) (K.hashed j) ≡ b }
     ensures { MatchOption result (Absent K.value (take len (pairs slots.now)) k.now) (Present K.value (take len (pairs slots.now)) k.now) }
@@ -92,9 +90,7 @@ pub(crate) fn seek<K: NodeTrait, V: Copy>(
     k: &K,
     w: Vacancy,
 ) -> Option<usize>
-    requires fits { len ≤ capacity_of slots.now }
-    requires chained { Chained K.hashed slots.now len }
-    requires marks { Marked K.hashed slots.now len }
+    requires indexed { Indexed K.hashed slots.now len }
     requires bucket { w.home < 2 * capacity_of slots.now }
     requires hashed { (j : K) → K.value j ≡ K.value k.now → vacancy (capacity_of slots.now) (K.hashed j) ≡ w }
     ensures { MatchOption result (Absent K.value (take len (pairs slots.now)) k.now) (Present K.value (take len (pairs slots.now)) k.now) }
@@ -113,13 +109,11 @@ pub(crate) fn enter<K: NodeTrait, V: Copy>(
     v: V,
     w: Vacancy,
 )
-    requires fits { len < capacity_of slots.old }
-    requires chained { Chained K.hashed slots.old len }
-    requires marks { Marked K.hashed slots.old len }
+    requires room { len < capacity_of slots.old }
+    requires indexed { Indexed K.hashed slots.old len }
     requires bucket { w.home < 2 * capacity_of slots.old }
     requires hashed { w ≡ vacancy (capacity_of slots.old) (K.hashed k) }
-    ensures chained { Chained K.hashed slots.new (len + 1) }
-    ensures marks { Marked K.hashed slots.new (len + 1) }
+    ensures indexed { Indexed K.hashed slots.new (len + 1) }
     ensures pair { pairs slots.new ≡ slice_set (pairs slots.old) len (k, v) }
 {
     set_pair(slots, len, k, v);
@@ -172,12 +166,9 @@ fn relocate<K: NodeTrait, V: Copy>(
 
 // Clears the marks of a bucket that has become empty.
 fn tidy<K: NodeTrait, V: Copy>(slots: &mut [Slot<K, V>], n: usize, b: usize)
-    requires fits { n ≤ capacity_of slots.old }
+    requires indexed { Indexed K.hashed slots.old n }
     requires bucket { b < 2 * capacity_of slots.old }
-    requires chained { Chained K.hashed slots.old n }
-    requires marks { Marked K.hashed slots.old n }
-    ensures chained { Chained K.hashed slots.new n }
-    ensures marks { Marked K.hashed slots.new n }
+    ensures indexed { Indexed K.hashed slots.new n }
     ensures pair { pairs slots.new ≡ pairs slots.old }
 {
     if head_of(slots, b) == NONE {
@@ -187,12 +178,9 @@ fn tidy<K: NodeTrait, V: Copy>(slots: &mut [Slot<K, V>], n: usize, b: usize)
 
 // Takes the entry at `g` out of the first `len`: the last one is put in its place.
 pub(crate) fn extract<K: NodeTrait, V: Copy>(slots: &mut [Slot<K, V>], len: usize, g: usize)
-    requires fits { len ≤ capacity_of slots.old }
+    requires indexed { Indexed K.hashed slots.old len }
     requires place { g < len }
-    requires chained { Chained K.hashed slots.old len }
-    requires marks { Marked K.hashed slots.old len }
-    ensures chained { Chained K.hashed slots.new (len - 1) }
-    ensures marks { Marked K.hashed slots.new (len - 1) }
+    ensures indexed { Indexed K.hashed slots.new (len - 1) }
     ensures entries { take (len - 1) (pairs slots.new) ≡ swap_removed (take len (pairs slots.old)) g }
 {
     let last = len - 1;

@@ -1,52 +1,18 @@
-ghost use Rattle.std.specs.Prelude.{◌≡◌, ℕ, ◌/◌, ◌<◌, ◌≤◌, length, slice_index_or, slice_set};
+ghost use Rattle.std.specs.Prelude.{◌≡◌, ℕ, ◌/◌, ◌<◌, ◌≤◌, [], ◌∷◌, length, slice_index_or, slice_set};
 ghost use Rattle.table.specs.Slots.{pairs, nexts, headed, marked, at, two, none, TwoSet, fresh_slot};
-ghost use Rattle.table.specs.Twins.{side_of, with_side};
 
 /// What a link holds where its chain ends.
 pub const NONE: usize = 65535;
 
-/// What one slot holds for the two buckets that it serves: by side, 0 or 1.
-#[derive(Clone, Copy)]
-pub struct Twin<T> {
-    even: T,
-    odd: T,
-}
-
-impl<T: Copy> Twin<T> {
-    fn get(self, side: usize) -> T
-        ensures { result ≡ side_of self side }
-    {
-        // Both are read first, so that the choice needs no branch.
-        let Twin { even, odd } = self;
-        if side == 0 { even } else { odd }
-    }
-
-    fn with(self, side: usize, x: T) -> Self
-        ensures { result ≡ with_side self side x }
-    {
-        if side == 0 {
-            Twin {
-                even: x,
-                odd: self.odd,
-            }
-        } else {
-            Twin {
-                even: self.even,
-                odd: x,
-            }
-        }
-    }
-}
-
 /// One entry, with the part of the index that lies beside it: the heads and the marks of two buckets,
-/// and the link of the entry's own chain.
+/// 2i and 2i + 1 at place i, and the link of the entry's own chain.
 #[derive(Clone, Copy)]
 pub struct Slot<K, V> {
     pub key: K,
     pub value: V,
-    heads: Twin<u16>,
+    heads: [u16; 2],
     next: u16,
-    marks: Twin<u8>,
+    marks: [u8; 2],
 }
 
 impl<K, V> Slot<K, V> {
@@ -57,10 +23,34 @@ impl<K, V> Slot<K, V> {
         Slot {
             key,
             value,
-            heads: Twin { even: 0, odd: 0 },
+            heads: [0; 2],
             next: 0,
-            marks: Twin { even: 0, odd: 0 },
+            marks: [0; 2],
         }
+    }
+
+    fn set_head(&mut self, side: usize, v: u16)
+        requires { side < 2 }
+        ensures here { at self.new.heads side ≡ v }
+        ensures slot { self.new ≡ record { key = self.old.key; value = self.old.value; heads = slice_set self.old.heads side v; next = self.old.next; marks = self.old.marks } }
+    {
+        self.heads[side] = v;
+    }
+
+    fn set_marks(&mut self, side: usize, v: u8)
+        requires { side < 2 }
+        ensures here { at self.new.marks side ≡ v }
+        ensures slot { self.new ≡ record { key = self.old.key; value = self.old.value; heads = self.old.heads; next = self.old.next; marks = slice_set self.old.marks side v } }
+    {
+        self.marks[side] = v;
+    }
+
+    // Empties both buckets.
+    pub(crate) fn vacate(&mut self)
+        ensures { self.new.heads ≡ none ∷ none ∷ [] }
+    {
+        self.heads = [NONE as u16; 2];
+        self.marks = [0; 2];
     }
 }
 
@@ -70,14 +60,14 @@ pub(crate) fn head_of<K: Copy, V: Copy>(slots: &[Slot<K, V>], b: usize) -> usize
     ensures value { result ≡ two (headed slots.now) b }
     ensures fits { result ≤ 65535 }
 {
-    slots[b / 2].heads.get(b % 2) as usize
+    slots[b / 2].heads[b % 2] as usize
 }
 
 pub(crate) fn marks_of<K: Copy, V: Copy>(slots: &[Slot<K, V>], b: usize) -> u8
     requires { b / 2 < length slots.now }
     ensures { result ≡ two (marked slots.now) b }
 {
-    slots[b / 2].marks.get(b % 2)
+    slots[b / 2].marks[b % 2]
 }
 
 pub(crate) fn next_of<K: Copy, V: Copy>(slots: &[Slot<K, V>], i: usize) -> usize
@@ -110,8 +100,7 @@ pub(crate) fn set_head<K: Copy, V: Copy>(slots: &mut [Slot<K, V>], b: usize, v: 
     ensures next { nexts slots.new ≡ nexts slots.old }
     ensures pair { pairs slots.new ≡ pairs slots.old }
 {
-    let heads = slots[b / 2].heads;
-    slots[b / 2].heads = heads.with(b % 2, v as u16);
+    slots[b / 2].set_head(b % 2, v as u16);
 }
 
 pub(crate) fn set_marks<K: Copy, V: Copy>(slots: &mut [Slot<K, V>], b: usize, v: u8)
@@ -121,8 +110,7 @@ pub(crate) fn set_marks<K: Copy, V: Copy>(slots: &mut [Slot<K, V>], b: usize, v:
     ensures next { nexts slots.new ≡ nexts slots.old }
     ensures pair { pairs slots.new ≡ pairs slots.old }
 {
-    let marks = slots[b / 2].marks;
-    slots[b / 2].marks = marks.with(b % 2, v);
+    slots[b / 2].set_marks(b % 2, v);
 }
 
 pub(crate) fn set_next<K: Copy, V: Copy>(slots: &mut [Slot<K, V>], i: usize, v: usize)
@@ -143,30 +131,7 @@ pub(crate) fn set_pair<K: Copy, V: Copy>(slots: &mut [Slot<K, V>], i: usize, k: 
     ensures next { nexts slots.new ≡ nexts slots.old }
     ensures pair { pairs slots.new ≡ slice_set (pairs slots.old) i (k, v) }
 {
-    let s = slots[i];
-    slots[i] = Slot {
-        key: k,
-        value: v,
-        heads: s.heads,
-        next: s.next,
-        marks: s.marks,
-    };
-}
-
-// Empties the two buckets whose heads lie in slot `i`.
-pub(crate) fn vacate<K: Copy, V: Copy>(slots: &mut [Slot<K, V>], i: usize)
-    requires { i < length slots.old }
-    ensures { headed slots.new ≡ slice_set (headed slots.old) i (record { even = none; odd = none }) }
-{
-    let s = slots[i];
-    slots[i] = Slot {
-        key: s.key,
-        value: s.value,
-        heads: Twin {
-            even: NONE as u16,
-            odd: NONE as u16,
-        },
-        next: s.next,
-        marks: Twin { even: 0, odd: 0 },
-    };
+    let slot = &mut slots[i];
+    slot.key = k;
+    slot.value = v;
 }

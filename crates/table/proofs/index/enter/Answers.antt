@@ -15,21 +15,21 @@ use Rattle.table.proofs.Writes.{same_capacity, settled, two_same}
 use Rattle.table.proofs.index.enter.Goals as goal
 
 pub set_pair-requires : goal.set_pair-requires
-set_pair-requires g c = omega (arith, c.requires.fits, within_memory c.args.slots.now)
+set_pair-requires g c = omega (arith, c.requires.room, within_memory c.args.slots.now)
 
 pub head_of-head-requires : goal.head_of-head-requires
 head_of-head-requires g c = omega (arith, bucket_slot c.args.slots.now c.args.w.home c.requires.bucket)
 
 pub set_next-requires : goal.set_next-requires
 set_next-requires g c = record {
-  within = omega (arith, c.requires.fits, within_memory c.args.slots.now);
+  within = omega (arith, c.requires.room, within_memory c.args.slots.now);
   fits = c.head_of-head.ensures.fits;
 }
 
 pub set_head-requires : goal.set_head-requires
 set_head-requires g c = record {
   within = omega (arith, bucket_slot c.args.slots.now c.args.w.home c.requires.bucket);
-  fits = omega (arith, c.requires.fits, within_links c.args.slots.now);
+  fits = omega (arith, c.requires.room, within_links c.args.slots.now);
 }
 
 pub marks_of-marks-requires : goal.marks_of-marks-requires
@@ -53,12 +53,12 @@ returns g c =
     let e : g.row.K.Denot × g.row.V.Denot = (c.args.k, c.args.v) in
     let pair : pairs t ≡ set (pairs s) len e =
     c.set_marks.ensures.pair ∙ (c.set_head.ensures.pair ∙ (c.set_next.ensures.pair ∙ c.set_pair.ensures.pair)) in
-    let in_pairs : len < length (pairs s) = simp length-map (omega (arith, c.requires.fits, within_memory s)) in
+    let in_pairs : len < length (pairs s) = simp length-map (omega (arith, c.requires.room, within_memory s)) in
     let next : nexts t ≡ set (nexts s) len c.head_of-head.result =
     c.set_marks.ensures.next
     ∙ (c.set_head.ensures.next
     ∙ (c.set_next.ensures.next ∙ ap (λ (l : List ℕ). set l len c.head_of-head.result) c.set_pair.ensures.next)) in
-    let in_nexts : len < length (nexts s) = simp length-map (omega (arith, c.requires.fits, within_memory s)) in
+    let in_nexts : len < length (nexts s) = simp length-map (omega (arith, c.requires.room, within_memory s)) in
     let before : (x : ℕ) → two (headed r) x ≡ two (headed s) x =
     two_same (headed s) (headed r) (c.set_next.ensures.heads ∙ c.set_pair.ensures.heads) in
     let after : (x : ℕ) → two (headed t) x ≡ two (headed q) x = two_same (headed q) (headed t) c.set_marks.ensures.heads in
@@ -71,20 +71,23 @@ returns g c =
     written_tag len (pairs s) (pairs t) e pair hashed in_pairs ∙ sym (ap (λ (z : Vacancy). z.mark) c.requires.hashed) in
     let small : k < 8 = omega (arith, ap (λ (z : Vacancy). z.mark) c.requires.hashed) in
     let L : Chains none (2 * cap) (suc len) h' (two (headed t)) (at (nexts t)) =
-    pushed none (2 * cap) len b (at (homes hashed cap (pairs s))) (two (headed s)) (at (nexts s)) h' (two (headed t)) (at (nexts t)) c.requires.chained
+    pushed none (2 * cap) len b (at (homes hashed cap (pairs s))) (two (headed s)) (at (nexts s)) h' (two (headed t)) (at (nexts t)) c.requires.indexed.chained
     at_home (other_home len (pairs s) (pairs t) e pair hashed cap)
     (at_set (nexts s) (nexts t) len _ next in_nexts ∙ (c.head_of-head.ensures.value ∙ two_same (headed s) (headed p) c.set_pair.ensures.heads b))
     (at_other (nexts s) (nexts t) len _ next)
     (after b ∙ c.set_head.ensures.heads.here) (λ x ne. after x ∙ (c.set_head.ensures.heads.there x ne ∙ before x)) in
     record {
-      chained =
+      indexed = record {
+        fits = omega arith;
+        chained =
           settled hashed cap (capacity_of t) (len + 1) (pairs t) (pairs t) (two (headed t)) (at (nexts t)) (same_capacity s t (omega arith)) refl (rw (add-one len) L);
-      marks = λ i lt.
+        marks = λ i lt.
           ap (λ z. bit_of (two (marked t) (at (homes hashed z (pairs t)) i)) (at (tags hashed (pairs t)) i)) (same_capacity s t (omega arith))
-          ∙ marks_pushed len b k (at (homes hashed cap (pairs s))) (at (tags hashed (pairs s))) (two (marked s)) h' (at (tags hashed (pairs t))) (two (marked t)) c.requires.marks
+          ∙ marks_pushed len b k (at (homes hashed cap (pairs s))) (at (tags hashed (pairs s))) (two (marked s)) h' (at (tags hashed (pairs t))) (two (marked t)) c.requires.indexed.marks
           at_home at_tag (other_home len (pairs s) (pairs t) e pair hashed cap) (other_tag len (pairs s) (pairs t) e pair hashed)
           (c.set_marks.ensures.marks.here
           ∙ (ap (λ z. bit_or z (1 * 2 ^ k % 2 ^ 8)) (c.marks_of-marks.ensures ∙ old b) ∙ ap (λ z. bit_or (two (marked s) b) z) (one_shl k 8 small)))
           (λ x ne. c.set_marks.ensures.marks.there x ne ∙ old x) i lt;
+      };
       pair = pair;
     }

@@ -9,20 +9,20 @@ use Rattle.table.proofs.Writes.{same_capacity, same_bucket}
 use Rattle.table.proofs.index.extract.Goals as goal
 
 pub home_at-gone-requires : goal.home_at-gone-requires
-home_at-gone-requires g c = omega (arith, c.requires.place, c.requires.fits)
+home_at-gone-requires g c = omega (arith, c.requires.place, c.requires.indexed.fits)
 
 pub home_at-b-requires : goal.home_at-b-requires
-home_at-b-requires g c = omega (arith, c.requires.place, c.requires.fits)
+home_at-b-requires g c = omega (arith, c.requires.place, c.requires.indexed.fits)
 
 pub detach-requires : goal.detach-requires
 detach-requires g c =
     let s = c.args.slots.now in
     let last : c.args.len - 1 + 1 ≡ c.args.len = omega (arith, c.requires.place) in
     record {
-      fits = omega (arith, c.requires.place, c.requires.fits);
+      fits = omega (arith, c.requires.place, c.requires.indexed.fits);
       bucket = c.home_at-b.ensures.below;
       home = sym c.home_at-b.ensures.home;
-      chained = rw last c.requires.chained;
+      chained = rw last c.requires.indexed.chained;
     }
 
 pub tidy-requires : goal.tidy-requires
@@ -31,11 +31,13 @@ tidy-requires g c =
     let u = c.detach.new.slots in
     let same : capacity_of u ≡ capacity_of s = same_capacity s u (omega arith) in
     record {
-      fits = omega (arith, c.requires.fits);
       bucket = omega (arith, c.home_at-gone.ensures.below);
-      chained = c.detach.ensures.chained;
-      marks =
-          marked_same g.K.NodeTrait.hashed s u c.args.len (c.args.len - 1) c.requires.marks (omega arith) c.detach.ensures.pair c.detach.ensures.marks (omega arith);
+      indexed = record {
+        fits = omega (arith, c.requires.indexed.fits);
+        chained = c.detach.ensures.chained;
+        marks =
+          marked_same g.K.NodeTrait.hashed s u c.args.len (c.args.len - 1) c.requires.indexed.marks (omega arith) c.detach.ensures.pair c.detach.ensures.marks (omega arith);
+      };
     }
 
 pub returns-then-g-last : goal.returns-then-g-last
@@ -44,10 +46,9 @@ returns-then-g-last g c =
     let t = c.tidy.new.slots in
     let same : pairs t ≡ pairs s = c.tidy.ensures.pair ∙ c.detach.ensures.pair in
     record {
-      chained = c.tidy.ensures.chained;
-      marks = c.tidy.ensures.marks;
+      indexed = c.tidy.ensures.indexed;
       entries =
-          take_swap_removed (pairs s) (pairs t) c.args.len c.args.g c.requires.place (simp length-map (omega (arith, c.requires.fits, within_memory s))) (ap length same)
+          take_swap_removed (pairs s) (pairs t) c.args.len c.args.g c.requires.place (simp length-map (omega (arith, c.requires.indexed.fits, within_memory s))) (ap length same)
           (λ lt d. let no : ⊥ = omega arith in absurd no) (λ i d lt ne. ap (λ z. get_or z i d) same);
     }
 
@@ -58,7 +59,7 @@ relocate-requires g c =
     let same : capacity_of u ≡ capacity_of s = same_capacity s u (omega arith) in
     let hashed = g.K.NodeTrait.hashed in
     record {
-      fits = omega (arith, c.requires.place, c.requires.fits);
+      fits = omega (arith, c.requires.place, c.requires.indexed.fits);
       bucket = omega (arith, c.home_at-b.ensures.below);
       home = same_bucket hashed s u c.detach.ensures.pair (omega arith) (c.args.len - 1) ∙ sym c.home_at-b.ensures.home;
       place = omega arith;
@@ -74,15 +75,17 @@ tidy-requires-2 g c =
     let r = c.relocate.new.slots in
     let same : capacity_of r ≡ capacity_of s = same_capacity s r (omega arith) in
     let last : c.args.len - 1 + 1 ≡ c.args.len = omega (arith, c.requires.place) in
-    let M : Marked g.K.NodeTrait.hashed s (c.args.len - 1 + 1) = rw last c.requires.marks in
+    let M : Marked g.K.NodeTrait.hashed s (c.args.len - 1 + 1) = rw last c.requires.indexed.marks in
     record {
-      fits = omega (arith, c.requires.fits);
       bucket = omega (arith, c.home_at-gone.ensures.below);
-      chained = c.relocate.ensures.chained;
-      marks =
-          marked_moved g.K.NodeTrait.hashed s r (c.args.len - 1) c.args.g M (omega (arith, c.requires.place)) (omega (arith, c.requires.place, c.requires.fits, within_memory s))
+      indexed = record {
+        fits = omega (arith, c.requires.indexed.fits);
+        chained = c.relocate.ensures.chained;
+        marks =
+          marked_moved g.K.NodeTrait.hashed s r (c.args.len - 1) c.args.g M (omega (arith, c.requires.place)) (omega (arith, c.requires.place, c.requires.indexed.fits, within_memory s))
           (λ d. c.relocate.ensures.pair d ∙ ap (λ z. set z c.args.g (get_or z (c.args.len - 1) d)) c.detach.ensures.pair)
           (c.relocate.ensures.marks ∙ c.detach.ensures.marks) (omega arith);
+      };
     }
 
 pub returns : goal.returns
@@ -94,10 +97,9 @@ returns g c =
     λ d.
     c.tidy-2.ensures.pair
     ∙ (c.relocate.ensures.pair d ∙ ap (λ z. set z c.args.g (get_or z last d)) c.detach.ensures.pair) in
-    let fits : c.args.len ≤ length (pairs s) = simp length-map (omega (arith, c.requires.fits, within_memory s)) in
+    let fits : c.args.len ≤ length (pairs s) = simp length-map (omega (arith, c.requires.indexed.fits, within_memory s)) in
     record {
-      chained = c.tidy-2.ensures.chained;
-      marks = c.tidy-2.ensures.marks;
+      indexed = c.tidy-2.ensures.indexed;
       entries =
           take_swap_removed (pairs s) (pairs t) c.args.len c.args.g c.requires.place fits (simp length-map (omega arith))
           (λ lt d. ap (λ z. get_or z c.args.g d) (same d) ∙ get_or-set_same (pairs s) c.args.g (get_or (pairs s) last d) d (omega (arith, c.requires.place)))

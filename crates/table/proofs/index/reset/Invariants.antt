@@ -2,5 +2,5 @@ use Rattle.std.proofs.Common.{◌≡◌, ℕ, ◌*◌, ◌<◌}
 use Rattle.table.specs.Slots.{headed, two, none}
 use Rattle.table.proofs.index.reset.Given as goal
 
-abbrev pub invariant-loop-i : goal.invariant-loop-i
-invariant-loop-i g l = (b : ℕ) → b < 2 * l.i → two (headed l.slots) b ≡ none
+abbrev pub invariant-loop-slot : goal.invariant-loop-slot
+invariant-loop-slot g l = (b : ℕ) → b < 2 * l.slot-index → two (headed l.slot-items) b ≡ none

@@ -3,7 +3,8 @@ use Rattle.table.specs.declared.table.Vacancy.{Vacancy}
 use Rattle.table.specs.Slots.{marked, two}
 use Rattle.table.specs.Index.{capacity_of}
 use Rattle.table.proofs.Capacity.{within_memory, bucket_slot}
-use Rattle.table.proofs.Seeks.{length_entries, home_of_same, tag_of_same, unmarked}
+use Rattle.table.proofs.Entries.{length_entries}
+use Rattle.table.proofs.Seeks.{home_of_same, tag_of_same, unmarked}
 use Rattle.table.proofs.index.seek.Goals as goal
 
 pub marks_of-requires : goal.marks_of-requires
@@ -16,21 +17,19 @@ pub returns-then-marks_of-w-eq0 : goal.returns-then-marks_of-w-eq0
 returns-then-marks_of-w-eq0 g c i d lt e =
     let s = c.args.slots.now in
     let len = c.args.len in
-    let fits : len ≤ length s = omega (arith, c.requires.fits, within_memory s) in
-    let il : i < len = omega (arith, length_entries s len fits) in
+    let il : i < len = omega (arith, length_entries c.requires.indexed) in
     let b =
-    home_of_same g.K.NodeTrait.value g.K.NodeTrait.hashed s len (capacity_of s) c.args.w.home fits c.args.k.now
+    home_of_same g.K.NodeTrait.value c.requires.indexed c.args.k.now c.args.w.home
     (λ j q. ap (λ (z : Vacancy). z.home) (c.requires.hashed j q)) i d il e in
     let m =
-    tag_of_same g.K.NodeTrait.value g.K.NodeTrait.hashed s len c.args.w.mark fits c.args.k.now
+    tag_of_same g.K.NodeTrait.value c.requires.indexed c.args.k.now c.args.w.mark
     (λ j q. ap (λ (z : Vacancy). z.mark) (c.requires.hashed j q)) i d il e in
     let z = unmarked (two (marked s)) _ _ _ _ _ b m c.marks_of.ensures c.if-marks_of-w-eq0.true in
-    omega (arith, z, c.requires.marks i il)
+    omega (arith, z, c.requires.indexed.marks i il)
 
 pub trace-requires : goal.trace-requires
 trace-requires g c = record {
-  fits = c.requires.fits;
-  chained = c.requires.chained;
+  indexed = c.requires.indexed;
   bucket = c.requires.bucket;
   hashed = λ j q. ap (λ (z : Vacancy). z.home) (c.requires.hashed j q);
 }

@@ -1,21 +1,19 @@
-use Rattle.std.proofs.Common.{ℕ, ◌/◌, set, sym, refl, ap, ◌∙◌}
+use Rattle.std.proofs.Common.{◌/◌, [], sym, ap}
 use Rattle.std.proofs.lemmas.List.{map-set, get_or-map, length-map}
-use Rattle.table.specs.declared.slot.Twin.{Twin}
-use Rattle.table.specs.Slots.{headed}
 use Rattle.table.proofs.Lists.{kept}
 use Rattle.table.proofs.Twos.{two_set}
 use Rattle.table.proofs.slot.set_head.Goals as goal
 
 pub returns : goal.returns
 returns g c =
+    let s = c.args.slots.now in
     let i = c.args.b / 2 in
+    let to = c.set_head.ensures.slot in
     record {
       heads =
-          two_set (headed c.args.slots.now) _ c.args.b c.args.v _
-          (map-set (λ s. s.heads) c.args.slots.now i _ ∙ ap (λ (z : Twin ℕ). set (headed c.args.slots.now) i z) c.with.ensures)
-          (simp length-map c.requires.within)
-          (sym (get_or-map (λ s. s.heads) c.args.slots.now i c.index-slots-b.result (record { even = 0; odd = 0 }) c.requires.within));
-      marks = kept (λ s. s.marks) c.args.slots.now i _ c.index-slots-b-2.result refl;
-      next = kept (λ s. s.next) c.args.slots.now i _ c.index-slots-b-2.result refl;
-      pair = kept (λ s. (s.key, s.value)) c.args.slots.now i _ c.index-slots-b-2.result refl;
+          two_set _ _ c.args.b c.args.v _ _ (map-set (λ x. x.heads) s i _) (simp length-map c.requires.within)
+          (sym (get_or-map (λ x. x.heads) s i c.index-slots-b.result [] c.requires.within)) (ap (λ x. x.heads) to) c.set_head.ensures.here;
+      marks = kept (λ x. x.marks) s i _ c.index-slots-b.result (ap (λ x. x.marks) to);
+      next = kept (λ x. x.next) s i _ c.index-slots-b.result (ap (λ x. x.next) to);
+      pair = kept (λ x. (x.key, x.value)) s i _ c.index-slots-b.result (ap (λ x. (x.key, x.value)) to);
     }

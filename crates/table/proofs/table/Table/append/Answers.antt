@@ -1,66 +1,70 @@
-use Rattle.std.proofs.Common.{◌≡◌, ◌+◌, ◌<◌, ltb, [], ◌∷◌, ◌++◌, length, take, Some, sym, refl, ap, ◌∙◌, arith}
+use Rattle.std.proofs.Common.{◌≡◌, ◌+◌, ◌<◌, ltb, Err, [], ◌∷◌, ◌++◌, length, take, Some, sym, refl, ap, subst, ◌∙◌, arith}
 use Rattle.std.proofs.lemmas.List.{length-map, take_more_set}
 use Rattle.std.proofs.lemmas.Bool.{cond-true, cond-false, lt-ltb, le-ltb}
 use Rattle.table.specs.declared.table.Vacancy.{Vacancy}
 use Rattle.table.specs.Slots.{pairs}
 use Rattle.table.specs.Index.{capacity_of}
-use Rattle.table.specs.Tables.{entries, capacity}
+use Rattle.table.specs.Tables.{sought}
 use Rattle.table.proofs.Apart.{apart_push}
 use Rattle.table.proofs.Capacity.{within_memory}
+use Rattle.table.proofs.Entries.{length_entries, take_set_end}
 use Rattle.table.proofs.Homes.{home_below}
-use Rattle.table.proofs.Seeks.{length_entries, sought_vacant}
+use Rattle.table.proofs.Seeks.{sought_vacant}
 use Rattle.table.proofs.Writes.{same_capacity}
 use Rattle.table.proofs.table.Table.append.Goals as goal
 
 pub returns-then-len-capacity : goal.returns-then-len-capacity
 returns-then-len-capacity g c =
     let t = c.args.self.now in
-    let s = t.slots.now in
-    let n = length_entries s t.len (omega (arith, c.requires.sound.fits, within_memory s)) in
+    let n = ap (λ z. length z.entries) c.self.view_is in
     record {
-      sound = c.requires.sound;
-      done = sym (cond-false (ltb (length (entries t)) (capacity t)) _ _ (le-ltb _ _ (omega (arith, n, c.capacity.ensures))));
+      done =
+          sym (cond-false (ltb (length t.entries) t.room) _ _ (le-ltb _ _ (omega (arith, n, length_entries c.self.invariant.index, c.capacity.ensures))));
       room = refl;
     }
 
 pub enter-requires : goal.enter-requires
 enter-requires g c =
-    let t = c.args.self.now in
-    let s = t.slots.now in
+    let s = c.self.inside.slots.now in
+    let room : c.self.inside.len < capacity_of s = omega (arith, c.capacity.ensures, ap (λ z. z.room) c.self.view_is) in
     let v =
-    sought_vacant g.K.NodeTrait.order g.met.K.NodeTrait.ordered g.K.NodeTrait.value g.K.NodeTrait.hashed (capacity t) (entries t) c.args.k c.args.w c.requires.absent in
+    sought_vacant g.K.NodeTrait.order g.met.K.NodeTrait.ordered g.K.NodeTrait.value g.K.NodeTrait.hashed (capacity_of s) (take c.self.inside.len (pairs s)) c.args.k c.args.w
+    (subst (λ z. sought g.K.NodeTrait.order g.K.NodeTrait.value g.K.NodeTrait.hashed z.room z.entries c.args.k ≡ Err c.args.w) (sym c.self.view_is) c.requires.absent) in
     record {
-      fits = omega (arith, c.capacity.ensures);
-      chained = c.requires.sound.chained;
-      marks = c.requires.sound.marks;
+      room = room;
+      indexed = c.self.invariant.index;
       bucket =
-          omega (arith, ap (λ (z : Vacancy). z.home) v.1, home_below (capacity_of s) (g.K.NodeTrait.hashed c.args.k) (omega (arith, c.capacity.ensures)));
+          omega (arith, ap (λ (z : Vacancy). z.home) v.1, home_below (capacity_of s) (g.K.NodeTrait.hashed c.args.k) (omega arith));
       hashed = v.1;
+    }
+
+pub invariant_of-self : goal.invariant_of-self
+invariant_of-self g c =
+    let s = c.self.inside.slots.now in
+    let len = c.self.inside.len in
+    let v =
+    sought_vacant g.K.NodeTrait.order g.met.K.NodeTrait.ordered g.K.NodeTrait.value g.K.NodeTrait.hashed (capacity_of s) (take len (pairs s)) c.args.k c.args.w
+    (subst (λ z. sought g.K.NodeTrait.order g.K.NodeTrait.value g.K.NodeTrait.hashed z.room z.entries c.args.k ≡ Err c.args.w) (sym c.self.view_is) c.requires.absent) in
+    let room : len < capacity_of s = omega (arith, c.capacity.ensures, ap (λ z. z.room) c.self.view_is) in
+    record {
+      index = c.enter.ensures.indexed;
+      apart =
+          rw (take_set_end s c.enter.new.slots len (c.args.k, c.args.v) c.enter.ensures.pair room)
+          (apart_push g.K.NodeTrait.value (take len (pairs s)) c.args.k c.args.v c.self.invariant.apart v.0);
     }
 
 pub returns : goal.returns
 returns g c =
-    let t = c.args.self.now in
-    let s = t.slots.now in
+    let s = c.self.inside.slots.now in
     let s' = c.enter.new.slots in
-    let len = t.len in
-    let v =
-    sought_vacant g.K.NodeTrait.order g.met.K.NodeTrait.ordered g.K.NodeTrait.value g.K.NodeTrait.hashed (capacity t) (entries t) c.args.k c.args.w c.requires.absent in
-    let n = length_entries s len (omega (arith, c.requires.sound.fits, within_memory s)) in
-    let in_memory : len < length (pairs s) = simp length-map (omega (arith, c.capacity.ensures, within_memory s)) in
-    let e : take (len + 1) (pairs s') ≡ entries t ++ (c.args.k, c.args.v) ∷ [] =
-    ap (take (len + 1)) c.enter.ensures.pair ∙ take_more_set (pairs s) len (c.args.k, c.args.v) in_memory in
-    let same : capacity_of s' ≡ capacity_of s = same_capacity s s' (omega arith) in
-    record {
-      sound = record {
-        fits = omega (arith, c.capacity.ensures);
-        chained = c.enter.ensures.chained;
-        marks = c.enter.ensures.marks;
-        apart = rw e (apart_push g.K.NodeTrait.value (entries t) c.args.k c.args.v c.requires.sound.apart v.0);
-      };
+    let len = c.self.inside.len in
+    let es = take len (pairs s) in
+    let room : len < capacity_of s = omega (arith, c.capacity.ensures, ap (λ z. z.room) c.self.view_is) in
+    rw (← c.self.view_is)
+    (record {
       done =
-          ap (λ z. (Some len, z)) e
-          ∙ (ap (λ z. (Some z, entries t ++ (c.args.k, c.args.v) ∷ [])) (sym n)
-          ∙ sym (cond-true (ltb (length (entries t)) (capacity t)) _ _ (lt-ltb _ _ (omega (arith, n, c.capacity.ensures)))));
-      room = same;
-    }
+          ap (λ z. (Some len, z)) (take_set_end s s' len (c.args.k, c.args.v) c.enter.ensures.pair room)
+          ∙ (ap (λ z. (Some z, es ++ (c.args.k, c.args.v) ∷ [])) (sym (length_entries c.self.invariant.index))
+          ∙ sym (cond-true (ltb (length es) (capacity_of s)) _ _ (lt-ltb _ _ (omega (arith, length_entries c.self.invariant.index)))));
+      room = same_capacity s s' (omega arith);
+    })

@@ -1,16 +1,10 @@
 use Rattle.std.proofs.Common.{refl, arith}
-use Rattle.lists.proofs.Chains.{emptied}
+use Rattle.table.proofs.Entries.{sound_empty}
 use Rattle.table.proofs.Writes.{same_capacity}
 use Rattle.table.proofs.table.Table.clear.Goals as goal
 
+pub invariant_of-self : goal.invariant_of-self
+invariant_of-self g c = sound_empty c.release.ensures
+
 pub returns : goal.returns
-returns g c = record {
-  sound = record {
-    fits = omega arith;
-    chained = emptied _ _ _ _ _ c.release.ensures;
-    marks = λ i lt. let no : ⊥ = omega arith in absurd no;
-    apart = λ i j d ij jl e. omega arith;
-  };
-  entries = refl;
-  room = same_capacity c.args.self.now.slots.now _ (omega arith);
-}
+returns g c = rw (← c.self.view_is) (record { entries = refl; room = same_capacity c.self.inside.slots.now _ (omega arith) })

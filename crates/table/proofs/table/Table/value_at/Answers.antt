@@ -1,18 +1,14 @@
-use Rattle.std.proofs.Common.{◌<◌, ◌≤◌, length, sym, ap, ◌∙◌, arith}
-use Rattle.table.proofs.Capacity.{within_memory}
-use Rattle.table.proofs.Seeks.{length_entries, entry_at}
+use Rattle.std.proofs.Common.{◌<◌, length, sym, ap, ◌∙◌, arith}
+use Rattle.table.proofs.Entries.{in_memory, length_entries, entry_at}
 use Rattle.table.proofs.table.Table.value_at.Goals as goal
 
 pub value_of-requires : goal.value_of-requires
 value_of-requires g c =
-    let t = c.args.self.now in
-    let fits : t.len ≤ length t.slots.now = omega (arith, c.requires.sound.fits, within_memory t.slots.now) in
-    omega (arith, c.requires.place, length_entries t.slots.now t.len fits)
+    let n = ap (λ z. length z.entries) c.self.view_is in
+    omega (arith, c.requires, n, length_entries c.self.invariant.index, in_memory c.self.invariant.index)
 
 pub returns : goal.returns
 returns g c d =
-    let t = c.args.self.now in
-    let s = t.slots.now in
-    let fits : t.len ≤ length s = omega (arith, c.requires.sound.fits, within_memory s) in
-    let lt : c.args.i < t.len = omega (arith, c.requires.place, length_entries s t.len fits) in
-    c.value_of.ensures d ∙ ap (λ z. z.1) (sym (entry_at s t.len fits c.args.i d lt))
+    let I = c.self.invariant.index in
+    let lt : c.args.i < c.self.inside.len = omega (arith, c.requires, ap (λ z. length z.entries) c.self.view_is, length_entries I) in
+    rw (← c.self.view_is) (c.value_of.ensures d ∙ ap (λ z. z.1) (sym (entry_at I c.args.i d lt)))

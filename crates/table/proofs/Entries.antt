@@ -1,0 +1,45 @@
+-- The entries of a table, in the slots that hold them.
+use Rattle.std.proofs.Common.{◌≡◌, ℕ, ◌+◌, ◌*◌, ◌<◌, ◌≤◌, List, [], ◌∷◌, ◌++◌, length, get_or, take, set, ap, ◌∙◌, arith}
+use Rattle.std.proofs.lemmas.List.{length-take-le, length-map, get_or-take, get_or-map, take_more_set}
+use Rattle.lists.proofs.Chains.{emptied}
+use Rattle.table.specs.declared.slot.Slot.{Slot}
+use Rattle.table.specs.Slots.{pairs, headed, two, none}
+use Rattle.table.specs.Index.{capacity_of, Indexed}
+use Rattle.table.specs.Content.{Sound}
+use Rattle.table.proofs.Capacity.{within_memory, within_links}
+
+module _ {K V : Type 0} {hashed : K → ℕ} {xs : List (Slot K V)} {len : ℕ} (I : Indexed hashed xs len) where
+  pub in_memory : len ≤ length xs
+  in_memory = omega (arith, I.fits, within_memory xs)
+
+  pub below_none : len ≤ none
+  below_none = omega (arith, I.fits, within_links xs)
+
+  pub length_entries : length (take len (pairs xs)) ≡ len
+  length_entries = length-take-le len (pairs xs) (simp length-map in_memory)
+
+  pub entry_at : (i : ℕ) (d : K × V) → i < len → get_or (take len (pairs xs)) i d ≡ get_or (pairs xs) i d
+  entry_at i d lt = get_or-take len (pairs xs) i d lt
+
+  -- the key at a place is the slot's
+  pub key_of_slot : (i : ℕ) (s : Slot K V) (d : K × V) → i < len → (get_or (take len (pairs xs)) i d).0 ≡ (get_or xs i s).key
+  key_of_slot i s d lt =
+      ap (λ (z : K × V). z.0) (entry_at i d lt ∙ get_or-map (λ (z : Slot K V). (z.key, z.value)) xs i s d (omega (arith, in_memory)))
+
+-- a table with no entries, over slots whose buckets are empty
+pub sound_empty : {K V W : Type 0} {value : K → W} {hashed : K → ℕ} {xs : List (Slot K V)}
+    → ((b : ℕ) → b < 2 * capacity_of xs → two (headed xs) b ≡ none) → Sound value hashed 0 xs
+sound_empty empty = record {
+  index = record {
+    fits = omega arith;
+    chained = emptied _ _ _ _ _ empty;
+    marks = λ i lt. let no : ⊥ = omega arith in absurd no;
+  };
+  apart = λ i j d ij jl e. omega arith;
+}
+
+-- an entry that is written past the first len
+pub take_set_end : {K V : Type 0} (xs ys : List (Slot K V)) (len : ℕ) (e : K × V) → pairs ys ≡ set (pairs xs) len e → len < capacity_of xs
+    → take (len + 1) (pairs ys) ≡ take len (pairs xs) ++ e ∷ []
+take_set_end xs ys len e is room =
+    ap (take (len + 1)) is ∙ take_more_set (pairs xs) len e (simp length-map (omega (arith, within_memory xs)))
