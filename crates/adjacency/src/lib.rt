@@ -4,6 +4,5 @@
 pub mod adding;
 mod edits;
 mod joins;
-pub mod memory;
 mod moves;
 pub mod removing;

@@ -8,7 +8,7 @@ use Rattle.rows.specs.declared.cells.RowHead.{RowHead}
 use Rattle.rows.specs.Rings.{none, nth, before, Ring, Apart}
 use Rattle.rows.specs.Links.{nexts, prevs, walk, Row, Kept, Linked, listed, next_of, prev_of}
 use Rattle.rows.proofs.Rings.{resized}
-use Rattle.rows.proofs.Lists.{row_linked, listed_is, listed_length}
+use Rattle.rows.proofs.Lists.{same_long, row_linked, listed_is, listed_length}
 
 -- a part of a cell that is as it was
 part_same : {A : Type 0} (f : A → ℕ) (mem mem' : List A) (x : ℕ) → length mem ≡ length mem' → x < length mem
@@ -48,16 +48,19 @@ module _ {K : Type 0} (mem mem' : List (Cell K)) (h : RowHead) (xs : List ℕ) (
 
 -- the same from what an edit of another row ensures, where ys are the cells that it may have written
 module _ {K : Type 0} (mem mem' : List (Cell K)) (h : RowHead) (ys : List ℕ) (linked : Linked mem h)
-    (same : length mem ≡ length mem') (small : length mem ≤ none) (kept : Kept mem mem' ys)
+    (small : length mem ≤ none) (kept : Kept mem mem' ys)
     (off : (k : ℕ) → k < length (listed mem h) → Apart (nth (listed mem h) k) ys) where
+  long : length mem ≡ length mem'
+  long = same_long (λ c. c.key) mem mem' kept.keys
+
   still : Row mem' h (listed mem h)
-  still = framed mem mem' h (listed mem h) linked same (λ k l d. kept.others _ d (linked.ring.within k l) (off k l))
+  still = framed mem mem' h (listed mem h) linked long (λ k l d. kept.others _ d (linked.ring.within k l) (off k l))
 
   pub other_linked : Linked mem' h
-  other_linked = row_linked still (omega arith)
+  other_linked = row_linked still (omega (arith, long))
 
   pub other_listed : listed mem' h ≡ listed mem h
-  other_listed = listed_is still (omega arith)
+  other_listed = listed_is still (omega (arith, long))
 
 -- a memory whose links are as they were: keys may have been written
 module _ {K : Type 0} (mem mem' : List (Cell K)) (h : RowHead) (nexts_same : nexts mem' ≡ nexts mem)
@@ -68,12 +71,9 @@ module _ {K : Type 0} (mem mem' : List (Cell K)) (h : RowHead) (nexts_same : nex
   pub rekeyed_linked : Linked mem h → Linked mem' h
   rekeyed_linked linked = record {
     long = sym (listed_length mem' h);
-    ring = resized long (moved (sym nexts_same) (sym prevs_same) linked.ring);
+    ring = resized (same_long (λ c. c.next) mem mem' nexts_same) (moved (sym nexts_same) (sym prevs_same) linked.ring);
   }
     where
-      long : length mem ≡ length mem'
-      long = sym (length-map mem (λ c. c.next)) ∙ ap length (sym nexts_same) ∙ length-map mem' (λ c. c.next)
-
       Moved : List ℕ → List ℕ → Type 0
       Moved ns ps =
           Ring (λ x. cond (eqb x none) h.first (get_or ns x 0)) (λ x. cond (eqb x none) h.last (get_or ps x 0)) (length mem)

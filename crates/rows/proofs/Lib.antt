@@ -5,6 +5,5 @@ pub mod Lists
 pub mod Edits
 pub mod Frames
 pub mod Swaps
-pub mod Searches
 pub mod Walks
 pub mod Firsts

@@ -17,6 +17,24 @@ pub apart_more : {x c : ℕ} (xs : List ℕ) → Apart x xs → (x ≡ c → ⊥
 apart_more xs a ne zero l e = ne (sym e)
 apart_more xs a ne (suc k) l e = a k (omega arith) e
 
+module _ {N P : ℕ → ℕ} {n : ℕ} {xs : List ℕ} (ring : Ring N P n xs) where
+  -- what stands beside a place is within the bounds, if it is not none
+  pub before_within : (k : ℕ) → k ≤ length xs → (before xs k ≡ none → ⊥) → before xs k < n
+  before_within zero lk some = absurd (some refl)
+  before_within (suc k) lk some = ring.within k lk
+
+  pub nth_within : (k : ℕ) → (nth xs k ≡ none → ⊥) → nth xs k < n
+  nth_within k some =
+      ⊎_elim (λ lk. ring.within k lk) (λ past. absurd (some (get_or_past xs k none past))) (cases_lt k (length xs))
+
+  -- what comes before none is the last
+  pub last_is : P none ≡ before xs (length xs)
+  last_is =
+      sym (ap P (get_or_past xs (length xs) none (omega arith))) ∙ (ring.gaps (length xs) (omega arith)).back
+
+  pub last_within : (P none ≡ none → ⊥) → P none < n
+  last_within some = rw last_is (before_within (length xs) (omega arith) (λ e. some (last_is ∙ e)))
+
 module _ {N P : ℕ → ℕ} {n : ℕ} {xs : List ℕ} (ring : Ring N P n xs) (small : n ≤ none) where
   -- what comes before the j-th and before the k-th is the same only if j is k
   pub same_place : (j k : ℕ) → j ≤ length xs → k ≤ length xs → before xs j ≡ before xs k → j ≡ k
@@ -40,22 +58,5 @@ module _ {N P : ℕ → ℕ} {n : ℕ} {xs : List ℕ} (ring : Ring N P n xs) (s
   nth_apart c l a k e =
       ⊎_elim (λ lk. a k lk e) (λ past. absurd (omega (arith, get_or_past xs k none past))) (cases_lt k (length xs))
 
-  -- what stands beside a place is within the bounds, if it is not none
-  pub before_within : (k : ℕ) → k ≤ length xs → (before xs k ≡ none → ⊥) → before xs k < n
-  before_within zero lk some = absurd (some refl)
-  before_within (suc k) lk some = ring.within k lk
-
-  pub nth_within : (k : ℕ) → (nth xs k ≡ none → ⊥) → nth xs k < n
-  nth_within k some =
-      ⊎_elim (λ lk. ring.within k lk) (λ past. absurd (some (get_or_past xs k none past))) (cases_lt k (length xs))
-
-  -- what comes before none is the last
-  pub last_is : P none ≡ before xs (length xs)
-  last_is =
-      sym (ap P (get_or_past xs (length xs) none (omega arith))) ∙ (ring.gaps (length xs) (omega arith)).back
-
-  pub last_within : (P none ≡ none → ⊥) → P none < n
-  last_within some = rw last_is (before_within (length xs) (omega arith) (λ e. some (last_is ∙ e)))
-
   pub last_apart : {c : ℕ} → c < n → Apart c xs → P none ≡ c → ⊥
-  last_apart {c} l a e = before_apart c l a (length xs) (omega arith) (sym last_is ∙ e)
+  last_apart {c} l a e = before_apart c l a (length xs) (omega arith) (sym (last_is ring) ∙ e)

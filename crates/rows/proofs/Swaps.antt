@@ -11,18 +11,13 @@ use Rattle.rows.specs.Links.{Row, Kept}
 use Rattle.rows.proofs.Rings.{same_nth}
 
 -- xs is the row, and ys what is left of it without its last cell, t, which stood at m
-module _ {K : Type 0} {mem : List (Cell K)} {h : RowHead} {xs : List ℕ} (row : Row mem h xs) (small : length mem ≤ none)
-    (ys : List ℕ) (m t : ℕ) (long : length xs ≡ suc m) (list : ys ≡ take m xs) (last : t ≡ nth xs m) where
+module _ (xs ys : List ℕ) (m t : ℕ) (long : length xs ≡ suc m) (list : ys ≡ take m xs)
+    (last : t ≡ nth xs m) where
   left_long : length ys ≡ m
   left_long = ap length list ∙ length-take-le m xs (omega arith)
 
   left_nth : (k : ℕ) → k < m → nth ys k ≡ nth xs k
   left_nth k l = ap (λ zs. nth zs k) list ∙ get_or-take m xs k none l
-
-  pub left_fresh : Apart t ys
-  left_fresh k l e =
-      let lk : k < m = omega (arith, left_long) in
-      omega (arith, same_nth row.ring small k m (omega arith) (omega arith) (sym (left_nth k lk) ∙ e ∙ last))
 
   -- a cell other than t is left where it was
   left_place : {c : ℕ} (i : ℕ) → i < length xs → nth xs i ≡ c → (t ≡ c → ⊥) → i < m
@@ -56,9 +51,10 @@ module _ {K : Type 0} {mem : List (Cell K)} {h : RowHead} {xs : List ℕ} (row :
       let place = left_place i l e ne in
       put i (omega (arith, left_long)) (left_nth i place ∙ e) ∙ swapped i
 
-  pub swapped_last : {c : ℕ} → t ≡ c → (i : ℕ) → i < length xs → nth xs i ≡ c → ys ≡ swap_removed xs i
-  swapped_last f i l e =
-      let q : i ≡ m = same_nth row.ring small i m (omega arith) (omega arith) (e ∙ sym f ∙ last) in
+  pub swapped_last : {c : ℕ} → Apart t ys → t ≡ c → (i : ℕ) → i < length xs → nth xs i ≡ c → ys ≡ swap_removed xs i
+  swapped_last apart f i l e =
+      let off : i < m → ⊥ = λ k. apart i (omega (arith, left_long)) (left_nth i k ∙ e ∙ sym f) in
+      let q : i ≡ m = omega arith in
       sym (set_past ys i t (omega (arith, left_long))) ∙ swapped i
 
   pub left_holds : {c : ℕ} → Holds c xs → (t ≡ c → ⊥) → Holds c ys
@@ -66,7 +62,7 @@ module _ {K : Type 0} {mem : List (Cell K)} {h : RowHead} {xs : List ℕ} (row :
       let place = left_place held.0 held.1 held.2 ne in
       (held.0, omega (arith, left_long), left_nth held.0 place ∙ held.2)
 
-  pub kept_both : {mem₁ mem₂ : List (Cell K)} → length mem ≡ length mem₁ → Kept mem mem₁ xs → Kept mem₁ mem₂ (t ∷ ys)
+  pub kept_both : {K : Type 0} {mem mem₁ mem₂ : List (Cell K)} → length mem ≡ length mem₁ → Kept mem mem₁ xs → Kept mem₁ mem₂ (t ∷ ys)
       → Kept mem mem₂ xs
   kept_both same a b = record {
     others = λ x d l off. b.others x d (omega arith) (apart x off) ∙ a.others x d l off;

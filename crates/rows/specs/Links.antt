@@ -54,20 +54,12 @@ module _ {K : Type 0} where
     pub others : (x : ℕ) (d : Cell K) → x < length mem → Apart x xs → slice_index_or mem' x d ≡ slice_index_or mem x d
     pub keys : cell_keys mem' ≡ cell_keys mem
 
-  -- v now comes after a, and nothing else has changed
-  pub record NextSet (mem : List (Cell K)) (h : RowHead) (mem' : List (Cell K)) (h' : RowHead) (a v : ℕ) : Type 0 where
-    pub here : next_of mem' h' a ≡ v
-    pub there : (x : ℕ) → (x ≢ a) → next_of mem' h' x ≡ next_of mem h x
-    pub prevs : (x : ℕ) → prev_of mem' h' x ≡ prev_of mem h x
-    pub others : (x : ℕ) (d : Cell K) → (x ≢ a) → slice_index_or mem' x d ≡ slice_index_or mem x d
-    pub keys : cell_keys mem' ≡ cell_keys mem
-    pub len : h'.len ≡ h.len
-
-  -- v now comes before a, and nothing else has changed
-  pub record PrevSet (mem : List (Cell K)) (h : RowHead) (mem' : List (Cell K)) (h' : RowHead) (a v : ℕ) : Type 0 where
-    pub here : prev_of mem' h' a ≡ v
-    pub there : (x : ℕ) → (x ≢ a) → prev_of mem' h' x ≡ prev_of mem h x
-    pub nexts : (x : ℕ) → next_of mem' h' x ≡ next_of mem h x
-    pub others : (x : ℕ) (d : Cell K) → (x ≢ a) → slice_index_or mem' x d ≡ slice_index_or mem x d
+  -- b now comes after a, and nothing else has changed
+  pub record Joined (mem : List (Cell K)) (h : RowHead) (mem' : List (Cell K)) (h' : RowHead) (a b : ℕ) : Type 0 where
+    pub onward : next_of mem' h' a ≡ b
+    pub back : prev_of mem' h' b ≡ a
+    pub nexts : (x : ℕ) → (x ≢ a) → next_of mem' h' x ≡ next_of mem h x
+    pub prevs : (x : ℕ) → (x ≢ b) → prev_of mem' h' x ≡ prev_of mem h x
+    pub others : (x : ℕ) (d : Cell K) → (x ≢ a) → (x ≢ b) → slice_index_or mem' x d ≡ slice_index_or mem x d
     pub keys : cell_keys mem' ≡ cell_keys mem
     pub len : h'.len ≡ h.len

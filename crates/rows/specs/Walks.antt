@@ -1,5 +1,8 @@
 -- Walks along the links of any memory, whatever the links are: a walk ends where a cell lies past the memory.
-use Rattle.std.specs.Prelude.{ℕ, zero, suc, Bool, cond, List, [], ◌∷◌, length, Some, None, Option, nat_lt, slice_index, slice_index_or}
+use Rattle.std.specs.Prelude.{◌≡◌, ℕ, zero, suc, Bool, cond, List, [], ◌∷◌, length, Some, None, Option, nat_lt, slice_index, slice_index_or}
+use Rattle.std.specs.List.{slice_get}
+use Rattle.std.specs.Iterator.{YieldsFirstBy}
+use denote.Ref.{Bor}
 use Rattle.keys.specs.declared.kinds.Direction.{Direction}
 use Rattle.keys.specs.declared.kinds.Kind.{Kind}
 use Rattle.model.specs.Keys.{Keys}
@@ -8,6 +11,7 @@ use Rattle.model.specs.Questions.{shown}
 use Rattle.rows.specs.declared.cells.Cell.{Cell}
 use Rattle.rows.specs.declared.cells.RowHead.{RowHead}
 use Rattle.rows.specs.declared.walk.Walk.{Walk}
+use Rattle.rows.specs.declared.walk.Steps.{Steps}
 use Rattle.rows.specs.Links.{nexts, cell_keys}
 use Rattle.rows.specs.HalfEdges.{side}
 
@@ -19,6 +23,23 @@ walk_of h = record { at = h.first; left = h.len }
 abbrev pub walked : {K : Type 0} → List (Cell K) → ℕ → ℕ → List ℕ
 walked mem x zero = []
 walked mem x (suc n) = cond (nat_lt x (length mem)) (x ∷ walked mem (slice_index (nexts mem) x) n) []
+
+-- the cell x, where it is in the memory, and the rest after it
+abbrev pub met_at : {K : Type 0} → ℕ → Option (Cell K) → (Cell K → List (ℕ × Cell K)) → List (ℕ × Cell K)
+met_at x None rest = []
+met_at x (Some c) rest = (x, c) ∷ rest c
+
+-- the cells of a walk, each with what it holds
+abbrev pub met : {K : Type 0} → List (Cell K) → ℕ → ℕ → List (ℕ × Cell K)
+met mem x zero = []
+met mem x (suc n) = met_at x (slice_get mem x) (λ c. met mem c.next n)
+
+-- the cells that the steps of a walk have still to meet, and what one step does
+abbrev pub still_met : {K : Type 0} → Steps K → List (ℕ × Cell K)
+still_met s = met s.cells.now s.walk.at s.walk.left
+
+abbrev pub StepsOn : {K : Type 0} → Steps K → Option (ℕ × Bor (Cell K)) → Steps K → Type 0
+StepsOn s r t = (t.cells ≡ s.cells) × YieldsFirstBy (λ p. (p.0, p.1.now)) still_met s r t
 
 -- whether the direction d shows the cell x, where v is the value of the node whose row it is
 abbrev pub showing : {N V : Type 0} → Keys N V → N → List (Cell N) → Kind → Direction → V → ℕ → Bool

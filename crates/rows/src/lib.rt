@@ -1,9 +1,10 @@
 // Rows of cells over lent memory: each row is a doubly linked list, and a cell is in one row at most.
 #![tactic(auto)]
 
+pub mod asked;
 pub mod cells;
-pub mod links;
+pub mod memory;
+pub mod questions;
 pub mod row;
-pub mod search;
 pub mod sides;
 pub mod walk;

@@ -1,8 +1,7 @@
 ghost use Rattle.std.specs.Prelude.{◌≡◌};
-ghost use Rattle.model.specs.Maps.{agree};
 ghost use Rattle.rows.specs.HalfEdges.{side};
 
-use keys::kinds::{Direction, Kind};
+use keys::kinds::Direction;
 
 /// The direction of the entry that the cell `c` has: the cells of a link's first end are even.
 pub fn side_of(c: u32) -> Direction
@@ -12,15 +11,5 @@ pub fn side_of(c: u32) -> Direction
         Direction::Outgoing
     } else {
         Direction::Incoming
-    }
-}
-
-/// Whether an entry of direction `d` is meant where `t` is asked for.
-pub fn agrees(kind: Kind, d: Direction, t: Direction) -> bool
-    ensures { result ≡ agree kind d t }
-{
-    match kind {
-        Kind::Directed => d == t,
-        Kind::Undirected => true,
     }
 }

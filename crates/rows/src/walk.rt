@@ -1,14 +1,8 @@
 ghost use Rattle.std.specs.Prelude.{◌≡◌};
-ghost use Rattle.std.specs.List.{slice_get};
-ghost use Rattle.model.specs.Keys.{keys};
-ghost use Rattle.model.specs.Questions.{shown};
-ghost use Rattle.rows.specs.HalfEdges.{side};
-ghost use Rattle.rows.specs.Walks.{walk_of, upcoming, first_of};
+ghost use Rattle.std.specs.Iterator.{item_count};
+ghost use Rattle.rows.specs.Walks.{walk_of, still_met, StepsOn};
 
 use crate::cells::{Cell, RowHead};
-use crate::sides::{agrees, side_of};
-use keys::kinds::{Direction, Kind};
-use keys::nodes::NodeTrait;
 
 /// How far a walk along a row has come: the cell that is next, and how many cells are left.
 #[derive(Clone, Copy)]
@@ -29,49 +23,28 @@ impl Walk {
     }
 }
 
-// Whether the direction `d` shows the entry of the cell `x` in the row of `n`.
-fn shows<N: NodeTrait>(cell: &Cell<N>, x: u32, kind: Kind, d: Direction, n: &N) -> bool
-    ensures { result ≡ shown (keys N.value N.order) kind d (N.value n.now) (cell.now.key, side x) }
-{
-    agrees(kind, side_of(x), d) || cell.key == *n
+// The cells of a walk, each with its number. The walk ends at a cell that is not in the memory.
+#[derive(Drop)]
+pub(crate) struct Steps<'r, N> {
+    pub(crate) cells: &'r [Cell<N>],
+    pub(crate) walk: Walk,
 }
 
-/// The next cell of the walk whose entry the direction `d` shows, where the row is that of `n`. The
-/// walk goes on after that cell. It ends at a cell that is not in the memory.
-pub fn advance<N: NodeTrait>(
-    cells: &[Cell<N>],
-    kind: Kind,
-    d: Direction,
-    n: &N,
-    walk: &mut Walk,
-) -> Option<u32>
-    ensures { (e : N) → (result, upcoming (keys N.value N.order) e cells.now kind d (N.value n.now) walk.new) ≡ first_of (upcoming (keys N.value N.order) e cells.now kind d (N.value n.now) walk.old) }
-{
-    while walk.left > 0 && (walk.at as usize) < cells.len() {
-        let x = walk.at;
-        let cell = &cells[x as usize];
-        walk.at = cell.next;
-        walk.left -= 1;
-        if shows(cell, x, kind, d, n) {
-            return Some(x);
-        }
-    }
-    None
-}
+impl<'r, N> Iterator for Steps<'r, N> {
+    type Item = (u32, &'r Cell<N>);
 
-/// The cell that `k` cells of the walk come before, of those that the direction `d` shows.
-pub fn nth_cell<N: NodeTrait>(
-    cells: &[Cell<N>],
-    kind: Kind,
-    d: Direction,
-    n: &N,
-    mut walk: Walk,
-    k: usize,
-) -> Option<u32>
-    ensures { (e : N) → result ≡ slice_get (upcoming (keys N.value N.order) e cells.now kind d (N.value n.now) walk) k }
-{
-    for _ in 0..k {
-        advance(cells, kind, d, n, &mut walk)?;
+    ghost next_gives = { StepsOn };
+
+    ghost remaining = { item_count still_met };
+
+    fn next(&mut self) -> Option<(u32, &'r Cell<N>)> {
+        let left = self.walk.left.checked_sub(1)?;
+        let x = self.walk.at;
+        let cell = self.cells.get(x as usize)?;
+        self.walk = Walk {
+            at: cell.next,
+            left,
+        };
+        Some((x, cell))
     }
-    advance(cells, kind, d, n, &mut walk)
 }

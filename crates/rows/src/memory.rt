@@ -1,0 +1,77 @@
+ghost use Rattle.std.specs.Prelude.{◌≡◌, ◌<◌, ◌≤◌, ◌/◌, length, take, slice_index_or, slice_set};
+ghost use Rattle.rows.specs.Rings.{none};
+ghost use Rattle.rows.specs.Links.{nexts, prevs, cell_keys};
+
+use crate::cells::Cell;
+use std::marker::Model;
+
+/// The most links that a map has: as many as a table has entries.
+pub const MOST_LINKS: usize = 65_535;
+
+/// The memory of the rows, two cells for each link.
+#[derive(Drop)]
+pub struct Rows<'a, N> {
+    pub(crate) cells: &'a mut [Cell<N>],
+}
+
+// Clauses see the list of the cells.
+impl<'a, N> Model for Rows<'a, N> {
+    ghost use Rattle.std.specs.Prelude.{◌≤◌, List, length};
+    ghost use Rattle.rows.specs.declared.cells.Cell.{Cell};
+
+    ghost Value = { List (Cell N) };
+
+    ghost view = { λ r. r.cells.now };
+
+    ghost invariant = { λ r. length r.cells.now ≤ 131070 };
+}
+
+impl<'a, N: Copy> Rows<'a, N> {
+    /// Rows over a memory of any length: no more cells are used than the most links have.
+    pub fn new(cells: &'a mut [Cell<N>]) -> Self
+        ensures { result ≡ take 131070 cells.old }
+    {
+        let used = (2 * MOST_LINKS).min(cells.len());
+        Rows {
+            cells: &mut cells[..used],
+        }
+    }
+
+    /// How many links the memory has cells for.
+    pub fn room(&self) -> usize
+        ensures links { result ≡ length self.now / 2 }
+        ensures small { length self.now ≤ 131070 }
+    {
+        self.cells.len() / 2
+    }
+
+    // The cell `c`.
+    pub(crate) fn cell(&self, c: u32) -> Cell<N>
+        requires { c < length self.now }
+        ensures cell { (d : _) → result ≡ slice_index_or self.now c d }
+        ensures small { length self.now ≤ none }
+    {
+        // Bound to a name first, as the proof learns the slice's size where the field is read.
+        let cells: &[Cell<N>] = self.cells;
+        cells[c as usize]
+    }
+
+    /// The key of the cell `c`.
+    pub fn key(&self, c: u32) -> N
+        requires { c < length self.now }
+        ensures { (d : N) → result ≡ slice_index_or (cell_keys self.now) c d }
+    {
+        self.cell(c).key
+    }
+
+    /// Writes the key of the cell `c`. The rows stay as they are.
+    pub fn set_key(&mut self, c: usize, k: N)
+        requires { c < length self.old }
+        ensures keys { cell_keys self.new ≡ slice_set (cell_keys self.old) c k }
+        ensures nexts { nexts self.new ≡ nexts self.old }
+        ensures prevs { prevs self.new ≡ prevs self.old }
+    {
+        let cells: &mut [Cell<N>] = self.cells;
+        cells[c].key = k;
+    }
+}
