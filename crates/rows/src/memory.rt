@@ -17,13 +17,14 @@ pub struct Rows<'a, N> {
 // Clauses see the list of the cells.
 impl<'a, N> Model for Rows<'a, N> {
     ghost use Rattle.std.specs.Prelude.{◌≤◌, List, length};
+    ghost use Rattle.rows.specs.Rings.{none};
     ghost use Rattle.rows.specs.declared.cells.Cell.{Cell};
 
     ghost Value = { List (Cell N) };
 
     ghost view = { λ r. r.cells.now };
 
-    ghost invariant = { λ r. length r.cells.now ≤ 131070 };
+    ghost invariant = { λ r. length r.cells.now ≤ none };
 }
 
 impl<'a, N: Copy> Rows<'a, N> {
@@ -37,10 +38,18 @@ impl<'a, N: Copy> Rows<'a, N> {
         }
     }
 
+    /// Rows over the whole of a memory whose cells a link can number.
+    pub fn over(cells: &'a mut [Cell<N>]) -> Self
+        requires small { length cells.old ≤ none }
+        ensures { result ≡ cells.old }
+    {
+        Rows { cells }
+    }
+
     /// How many links the memory has cells for.
     pub fn room(&self) -> usize
         ensures links { result ≡ length self.now / 2 }
-        ensures small { length self.now ≤ 131070 }
+        ensures small { length self.now ≤ none }
     {
         self.cells.len() / 2
     }

@@ -10,7 +10,7 @@ ghost use Rattle.rows.specs.Walks.{upcoming, first_of};
 use crate::asked::Asked;
 use crate::cells::RowHead;
 use crate::memory::Rows;
-use crate::walk::{Steps, Walk};
+use crate::walk::{Steps, Walk, advance, nth_cell};
 use keys::nodes::NodeTrait;
 
 impl<'a, N: NodeTrait> Rows<'a, N> {
@@ -40,19 +40,13 @@ impl<'a, N: NodeTrait> Rows<'a, N> {
     pub fn advance(&self, asked: Asked<N>, walk: &mut Walk) -> Option<u32>
         ensures { (e : N) → (result, upcoming (keys N.value N.order) e self.now asked.kind asked.direction (N.value asked.node) walk.new) ≡ first_of (upcoming (keys N.value N.order) e self.now asked.kind asked.direction (N.value asked.node) walk.old) }
     {
-        let mut steps = self.steps(*walk);
-        let shown = steps.find(|&(x, cell)| asked.shows(x, &cell.key));
-        *walk = steps.walk;
-        shown.map(|(x, _)| x)
+        advance(self.cells, asked, walk)
     }
 
     /// The cell that `k` cells of the walk come before, of those that the direction shows.
     pub fn nth_cell(&self, asked: Asked<N>, walk: Walk, k: usize) -> Option<u32>
         ensures { (e : N) → result ≡ slice_get (upcoming (keys N.value N.order) e self.now asked.kind asked.direction (N.value asked.node) walk) k }
     {
-        self.steps(walk)
-            .filter(|&(x, cell)| asked.shows(x, &cell.key))
-            .nth(k)
-            .map(|(x, _)| x)
+        nth_cell(self.cells, asked, walk, k)
     }
 }

@@ -1,8 +1,12 @@
 ghost use Rattle.std.specs.Prelude.{◌≡◌};
 ghost use Rattle.std.specs.Iterator.{item_count};
-ghost use Rattle.rows.specs.Walks.{walk_of, still_met, StepsOn};
+ghost use Rattle.std.specs.List.{slice_get};
+ghost use Rattle.model.specs.Keys.{keys};
+ghost use Rattle.rows.specs.Walks.{walk_of, still_met, StepsOn, upcoming, first_of};
 
+use crate::asked::Asked;
 use crate::cells::{Cell, RowHead};
+use keys::nodes::NodeTrait;
 
 /// How far a walk along a row has come: the cell that is next, and how many cells are left.
 #[derive(Clone, Copy)]
@@ -47,4 +51,30 @@ impl<'r, N> Iterator for Steps<'r, N> {
         };
         Some((x, cell))
     }
+}
+
+/// The next cell of the walk whose entry the direction shows, where the row is that of the node. The
+/// walk goes on after that cell. It ends at a cell that is not in the memory, which may be any.
+pub fn advance<N: NodeTrait>(cells: &[Cell<N>], asked: Asked<N>, walk: &mut Walk) -> Option<u32>
+    ensures { (e : N) → (result, upcoming (keys N.value N.order) e cells.now asked.kind asked.direction (N.value asked.node) walk.new) ≡ first_of (upcoming (keys N.value N.order) e cells.now asked.kind asked.direction (N.value asked.node) walk.old) }
+{
+    let mut steps = Steps { cells, walk: *walk };
+    let shown = steps.find(|&(x, cell)| asked.shows(x, &cell.key));
+    *walk = steps.walk;
+    shown.map(|(x, _)| x)
+}
+
+/// The cell that `k` cells of the walk come before, of those that the direction shows.
+pub fn nth_cell<N: NodeTrait>(
+    cells: &[Cell<N>],
+    asked: Asked<N>,
+    walk: Walk,
+    k: usize,
+) -> Option<u32>
+    ensures { (e : N) → result ≡ slice_get (upcoming (keys N.value N.order) e cells.now asked.kind asked.direction (N.value asked.node) walk) k }
+{
+    Steps { cells, walk }
+        .filter(|&(x, cell)| asked.shows(x, &cell.key))
+        .nth(k)
+        .map(|(x, _)| x)
 }

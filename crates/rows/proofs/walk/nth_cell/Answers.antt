@@ -1,4 +1,4 @@
-use Rattle.std.proofs.Common.{rules, ◌≡◌, ℕ, Bool, List, map, ap, ◌∙◌}
+use Rattle.std.proofs.Common.{rules, ◌≡◌, ℕ, Bool, List, map, refl, ap, ◌∙◌}
 use borrow.Author.Tests.{tests}
 use Rattle.std.specs.List.{filter, slice_get}
 use Rattle.std.specs.Option.{option_map}
@@ -10,17 +10,17 @@ use Rattle.rows.specs.HalfEdges.{side}
 use Rattle.rows.specs.Walks.{walked, upcoming}
 use Rattle.rows.proofs.Walks.{keyed_in, seen, steps_yield}
 use Rattle.rows.proofs.Firsts.{kept_map, first_back}
-use Rattle.rows.proofs.memory.Rows.nth_cell.Goals as goal
+use Rattle.rows.proofs.walk.nth_cell.Goals as goal
 
 pub returns : goal.returns
 returns g c e =
     let K = keys g.N.NodeTrait.value g.N.NodeTrait.order in
     let a = c.args.asked in
-    let mem = c.args.self.now in
+    let mem = c.args.cells.now in
     let w = c.args.walk in
     let key = keyed_in e mem in
     let test : ℕ × _ → Bool = λ p. shown K a.kind a.direction (K.value a.node) (p.1, side p.0) in
-    let steps = steps_yield e mem w c.steps.result c.steps.ensures.cells c.steps.ensures.walk in
+    let steps = steps_yield e mem w (record { cells = c.args.cells; walk = w }) refl refl in
     let place : option_map seen c.nth.result ≡ slice_get (filter test (map key (walked mem w.at w.left))) c.args.k =
     nth_from_yields_List c.nth.result _ _ c.nth.ensures.ran
     (YieldsList-from_filter _ test (YieldsList-at c.filter.ensures.source steps) c.filter.ensures.closure (λ x b q k. search (rules, tests))) in
