@@ -1,14 +1,13 @@
 -- What is known between the two steps of a swap removal: the last cell off, then into the place of another.
-use Rattle.std.proofs.Common.{◌≡◌, ℕ, zero, suc, ◌-◌, ◌<◌, ◌≤◌, List, ◌∷◌, length, take, set, sym, ap, ◌∙◌, inl, inr, arith}
+use Rattle.std.proofs.Common.{◌≡◌, ℕ, zero, suc, ◌-◌, ◌<◌, List, ◌∷◌, length, take, set, sym, ap, ◌∙◌, inl, inr, arith}
 use Rattle.std.proofs.lemmas.List.{get_or-take, get_or-set_same, get_or-set_other, length-set, length-take-le, set_past, ext_get_or}
 use Rattle.std.proofs.lemmas.Bool.{cases_eq}
 use Rattle.lists.specs.Swap.{swap_removed}
 use Rattle.lists.proofs.Swap.{length_swap_removed, swap_removed_at, swap_removed_other}
 use Rattle.rows.specs.declared.cells.Cell.{Cell}
-use Rattle.rows.specs.declared.cells.RowHead.{RowHead}
 use Rattle.rows.specs.Rings.{none, nth, Apart, Holds}
-use Rattle.rows.specs.Links.{Row, Kept}
-use Rattle.rows.proofs.Rings.{same_nth}
+use Rattle.rows.specs.Links.{Kept}
+use Rattle.rows.proofs.Lists.{same_long}
 
 -- xs is the row, and ys what is left of it without its last cell, t, which stood at m
 module _ (xs ys : List ℕ) (m t : ℕ) (long : length xs ≡ suc m) (list : ys ≡ take m xs)
@@ -62,10 +61,10 @@ module _ (xs ys : List ℕ) (m t : ℕ) (long : length xs ≡ suc m) (list : ys 
       let place = left_place held.0 held.1 held.2 ne in
       (held.0, omega (arith, left_long), left_nth held.0 place ∙ held.2)
 
-  pub kept_both : {K : Type 0} {mem mem₁ mem₂ : List (Cell K)} → length mem ≡ length mem₁ → Kept mem mem₁ xs → Kept mem₁ mem₂ (t ∷ ys)
+  pub kept_both : {K : Type 0} {mem mem₁ mem₂ : List (Cell K)} → Kept mem mem₁ xs → Kept mem₁ mem₂ (t ∷ ys)
       → Kept mem mem₂ xs
-  kept_both same a b = record {
-    others = λ x d l off. b.others x d (omega arith) (apart x off) ∙ a.others x d l off;
+  kept_both a b = record {
+    others = λ x d l off. b.others x d (omega (arith, same_long (λ c. c.key) _ _ a.keys)) (apart x off) ∙ a.others x d l off;
     keys = b.keys ∙ a.keys;
   }
     where

@@ -38,7 +38,7 @@ impl<'a, N: NodeTrait> Rows<'a, N> {
     /// The next cell of the walk whose entry the direction shows, where the row is that of the
     /// node. The walk goes on after that cell. It ends at a cell that is not in the memory.
     pub fn advance(&self, asked: Asked<N>, walk: &mut Walk) -> Option<u32>
-        ensures { (e : N) → (result, upcoming (keys N.value N.order) e self.now asked.kind asked.direction (N.value asked.node) walk.new) ≡ first_of (upcoming (keys N.value N.order) e self.now asked.kind asked.direction (N.value asked.node) walk.old) }
+        ensures { (e : N) → let coming = upcoming (keys N.value N.order) e self.now asked.kind asked.direction (N.value asked.node) in (result, coming walk.new) ≡ first_of (coming walk.old) }
     {
         advance(self.cells, asked, walk)
     }

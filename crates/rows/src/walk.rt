@@ -56,7 +56,7 @@ impl<'r, N> Iterator for Steps<'r, N> {
 /// The next cell of the walk whose entry the direction shows, where the row is that of the node. The
 /// walk goes on after that cell. It ends at a cell that is not in the memory, which may be any.
 pub fn advance<N: NodeTrait>(cells: &[Cell<N>], asked: Asked<N>, walk: &mut Walk) -> Option<u32>
-    ensures { (e : N) → (result, upcoming (keys N.value N.order) e cells.now asked.kind asked.direction (N.value asked.node) walk.new) ≡ first_of (upcoming (keys N.value N.order) e cells.now asked.kind asked.direction (N.value asked.node) walk.old) }
+    ensures { (e : N) → let coming = upcoming (keys N.value N.order) e cells.now asked.kind asked.direction (N.value asked.node) in (result, coming walk.new) ≡ first_of (coming walk.old) }
 {
     let mut steps = Steps { cells, walk: *walk };
     let shown = steps.find(|&(x, cell)| asked.shows(x, &cell.key));

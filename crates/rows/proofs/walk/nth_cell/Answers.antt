@@ -7,7 +7,7 @@ use Rattle.std.proofs.lemmas.Iterator.Consumers.{nth_from_yields_List, YieldsLis
 use Rattle.model.specs.Keys.{keys}
 use Rattle.model.specs.Questions.{shown}
 use Rattle.rows.specs.HalfEdges.{side}
-use Rattle.rows.specs.Walks.{walked, upcoming}
+use Rattle.rows.specs.Walks.{walked}
 use Rattle.rows.proofs.Walks.{keyed_in, seen, steps_yield}
 use Rattle.rows.proofs.Firsts.{kept_map, first_back}
 use Rattle.rows.proofs.walk.nth_cell.Goals as goal

@@ -1,4 +1,4 @@
-use Rattle.std.proofs.Common.{◌≤◌, ◌-◌, ◌∙◌, sym, length, arith}
+use Rattle.std.proofs.Common.{◌≤◌, ◌-◌, ◌∙◌, length, arith}
 use Rattle.rows.specs.Rings.{none}
 use Rattle.rows.proofs.Rings.{before_within}
 use Rattle.rows.proofs.Lists.{row_linked, listed_is, last_nth, last_within, last_prev}

@@ -1,12 +1,11 @@
-use Rattle.std.proofs.Common.{rules, ◌≡◌, ℕ, List, Bool, Option, map, get_or, ap, ◌∙◌}
+use Rattle.std.proofs.Common.{rules, ◌≡◌, ℕ, Bool, map, ap, ◌∙◌}
 use borrow.Author.Tests.{tests}
 use Rattle.std.specs.List.{find}
 use Rattle.std.specs.Option.{option_map}
 use Rattle.std.proofs.lemmas.Iterator.Search.{find_from_yields_List}
 use Rattle.model.specs.Keys.{keys}
-use Rattle.model.specs.Lists.{found}
 use Rattle.model.specs.Maps.{hits}
-use Rattle.rows.specs.Links.{cell_keys, listed}
+use Rattle.rows.specs.Links.{listed}
 use Rattle.rows.specs.HalfEdges.{side}
 use Rattle.rows.specs.Walks.{walk_of}
 use Rattle.rows.proofs.Walks.{keyed_in, seen, steps_yield, walked_listed}

@@ -1,4 +1,4 @@
-use Rattle.std.proofs.Common.{◌≡◌, List, ◌∙◌, set, ap, refl}
+use Rattle.std.proofs.Common.{◌∙◌, set, ap, refl}
 use lib.Seq.{map-set, map-set_same}
 use Rattle.rows.specs.Links.{nexts, prevs, cell_keys}
 use Rattle.rows.proofs.memory.Rows.set_key.Goals as goal

@@ -35,7 +35,7 @@ returns-then-last-c g c =
       list = λ i l.
           swapped_other _ ys m t long p.list p.popped c.if-last-c.true
           (λ j lj. r.list j (omega (arith, p.linked.long))) i (omega (arith, row.long));
-      kept = kept_both _ ys m t long p.list p.popped (same_long (λ c. c.key) _ _ p.kept.keys) p.kept r.kept;
+      kept = kept_both _ ys m t long p.list p.popped p.kept r.kept;
     }
 
 pub returns-else-last-c : goal.returns-else-last-c
