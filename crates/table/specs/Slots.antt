@@ -30,6 +30,11 @@ at l i = slice_index l i
 abbrev pub two : List (List ℕ) → ℕ → ℕ
 two l b = at (slice_index_or l (b / 2) []) (b % 2)
 
+-- only heads and links may differ
+pub record SameEntries {K V : Type 0} (old new : List (Slot K V)) : Type 0 where
+  pub marks : marked new ≡ marked old
+  pub pair : pairs new ≡ pairs old
+
 -- v becomes what bucket b has, and the other buckets keep what they have
 pub record TwoSet (b v : ℕ) (l l' : List (List ℕ)) : Type 0 where
   pub here : two l' b ≡ v
