@@ -1,5 +1,5 @@
 -- What a slice of slots stands for: four lists, one for each part.
-use Rattle.std.specs.Prelude.{◌≡◌, ℕ, ◌/◌, ◌%◌, List, [], ◌∷◌, map, ◌≢◌, slice_index, slice_index_or}
+use Rattle.std.specs.Prelude.{◌≡◌, ℕ, ◌/◌, ◌%◌, ◌==◌, cond, Some, None, Option, List, [], ◌∷◌, map, ◌≢◌, slice_index, slice_index_or}
 use Rattle.table.specs.declared.slot.Slot.{Slot}
 
 abbrev pub pairs : {K V : Type 0} → List (Slot K V) → List (K × V)
@@ -21,6 +21,10 @@ fresh_slot k v = record { key = k; value = v; heads = 0 ∷ 0 ∷ []; next = 0; 
 -- the link of a chain that ends: no place is as large
 abbrev pub none : ℕ
 none = 65535
+
+-- the place that a link leads to
+abbrev pub place_of : ℕ → Option ℕ
+place_of link = cond (link == none) None (Some link)
 
 -- what stands at a place of a list of numbers
 abbrev pub at : List ℕ → ℕ → ℕ

@@ -7,7 +7,7 @@ ghost use Rattle.table.specs.Tables.{vacancy};
 
 use crate::chain::{link, unlink};
 use crate::slot::{
-    NONE, Slot, head_of, key_of, marks_of, next_of, set_head, set_marks, set_next, set_pair,
+    NONE, Slot, head_of, key_of, marks_of, next_of, place_of, set_head, set_marks, set_next, set_pair,
     value_of,
 };
 use crate::table::Vacancy;
@@ -72,12 +72,12 @@ fn trace<K: NodeTrait, V: Copy>(slots: &[Slot<K, V>], len: usize, k: &K, b: usiz
     requires hashed { (j : K) → K.Compare.value j ≡ K.Compare.value k.now → home (capacity_of slots.now) (K.NodeTrait.hashed j) ≡ b }
     ensures { MatchOption result (Absent K.Compare.value (take len (pairs slots.now)) k.now) (Present K.Compare.value (take len (pairs slots.now)) k.now) }
 {
-    let mut link = head_of(slots, b);
-    while link != NONE {
-        if same(&slots[link].key, k) {
-            return Some(link);
+    let mut at = place_of(head_of(slots, b));
+    while let Some(i) = at {
+        if same(&slots[i].key, k) {
+            return Some(i);
         }
-        link = next_of(slots, link);
+        at = place_of(next_of(slots, i));
     }
     None
 }
