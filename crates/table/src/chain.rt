@@ -3,7 +3,7 @@ ghost use Rattle.lists.specs.Chains.{Above, Put};
 ghost use Rattle.table.specs.Slots.{nexts, headed, at, two, SameEntries};
 ghost use Rattle.table.specs.Index.{capacity_of, bucket_of, held, InBucket, Chained, ChainedOff, ChainedBut};
 
-use crate::slot::{NONE, Slot, head_of, next_of, set_head, set_next};
+use crate::slot::{Slot, head_of, next_of, place_of, set_head, set_next};
 use keys::order::NodeTrait;
 
 // The smallest place past `g` in bucket `b`, or `n`: what holds the link to `g`, or would.
@@ -15,10 +15,13 @@ fn above<K: NodeTrait, V: Copy>(slots: &[Slot<K, V>], n: usize, b: usize, g: usi
     ensures { Above n (bucket_of K.NodeTrait.hashed slots.now) b g result }
 {
     let mut p = n;
-    let mut link = head_of(slots, b);
-    while link != NONE && link > g {
-        p = link;
-        link = next_of(slots, p);
+    let mut at = place_of(head_of(slots, b));
+    while let Some(i) = at {
+        if i <= g {
+            return p;
+        }
+        p = i;
+        at = place_of(next_of(slots, i));
     }
     p
 }

@@ -23,25 +23,25 @@ loop-at-init g c = (
 pub offset_bounds-slots-i : goal.offset_bounds-slots-i
 offset_bounds-slots-i g c =
     let w =
-    walk_place c.requires.indexed c.args.b c.requires.bucket c.loop-at.invariant.0 c.in-Some.i c.loop-at.invariant.1 (sym c.in-Some.is ∙ c.loop-at.invariant.2) in
+    walk_place _ c.args.len _ _ _ c.requires.indexed.chained (below_none c.requires.indexed) c.args.b c.requires.bucket c.loop-at.invariant.0 c.in-Some.i c.loop-at.invariant.1 (sym c.in-Some.is ∙ c.loop-at.invariant.2) in
     omega (arith, w.0, c.loop-at.invariant.1, in_memory c.requires.indexed)
 
 pub bounds-slots-i : goal.bounds-slots-i
 bounds-slots-i g c =
     let w =
-    walk_place c.requires.indexed c.args.b c.requires.bucket c.loop-at.invariant.0 c.in-Some.i c.loop-at.invariant.1 (sym c.in-Some.is ∙ c.loop-at.invariant.2) in
+    walk_place _ c.args.len _ _ _ c.requires.indexed.chained (below_none c.requires.indexed) c.args.b c.requires.bucket c.loop-at.invariant.0 c.in-Some.i c.loop-at.invariant.1 (sym c.in-Some.is ∙ c.loop-at.invariant.2) in
     omega (arith, w.0, c.loop-at.invariant.1, in_memory c.requires.indexed)
 
 pub next_of-requires : goal.next_of-requires
 next_of-requires g c =
     let w =
-    walk_place c.requires.indexed c.args.b c.requires.bucket c.loop-at.invariant.0 c.in-Some.i c.loop-at.invariant.1 (sym c.in-Some.is ∙ c.loop-at.invariant.2) in
+    walk_place _ c.args.len _ _ _ c.requires.indexed.chained (below_none c.requires.indexed) c.args.b c.requires.bucket c.loop-at.invariant.0 c.in-Some.i c.loop-at.invariant.1 (sym c.in-Some.is ∙ c.loop-at.invariant.2) in
     omega (arith, w.0, c.loop-at.invariant.1, in_memory c.requires.indexed)
 
 pub returns-then-same : goal.returns-then-same
 returns-then-same g c =
     let w =
-    walk_place c.requires.indexed c.args.b c.requires.bucket c.loop-at.invariant.0 c.in-Some.i c.loop-at.invariant.1 (sym c.in-Some.is ∙ c.loop-at.invariant.2) in
+    walk_place _ c.args.len _ _ _ c.requires.indexed.chained (below_none c.requires.indexed) c.args.b c.requires.bucket c.loop-at.invariant.0 c.in-Some.i c.loop-at.invariant.1 (sym c.in-Some.is ∙ c.loop-at.invariant.2) in
     let lt : c.in-Some.i < c.args.len = omega (arith, w.0, c.loop-at.invariant.1) in (
       omega (arith, length_entries c.requires.indexed),
       λ d.
@@ -52,21 +52,21 @@ returns-then-same g c =
 pub loop-at-smaller : goal.loop-at-smaller
 loop-at-smaller g c =
     let w =
-    walk_place c.requires.indexed c.args.b c.requires.bucket c.loop-at.invariant.0 c.in-Some.i c.loop-at.invariant.1 (sym c.in-Some.is ∙ c.loop-at.invariant.2) in
+    walk_place _ c.args.len _ _ _ c.requires.indexed.chained (below_none c.requires.indexed) c.args.b c.requires.bucket c.loop-at.invariant.0 c.in-Some.i c.loop-at.invariant.1 (sym c.in-Some.is ∙ c.loop-at.invariant.2) in
     let lt : c.in-Some.i < c.args.len = omega (arith, w.0, c.loop-at.invariant.1) in
     rw (c.in-Some.is, c.place_of-at-in-Some.ensures)
-    (walk_next c.requires.indexed c.args.b c.requires.bucket c.in-Some.i c.next_of.result lt w.2 c.next_of.ensures.value).1
+    (walk_next _ c.args.len _ _ _ c.requires.indexed.chained (below_none c.requires.indexed) c.args.b c.requires.bucket c.in-Some.i c.next_of.result lt w.2 c.next_of.ensures.value).1
 
 pub loop-at-preserved : goal.loop-at-preserved
 loop-at-preserved g c =
     let w =
-    walk_place c.requires.indexed c.args.b c.requires.bucket c.loop-at.invariant.0 c.in-Some.i c.loop-at.invariant.1 (sym c.in-Some.is ∙ c.loop-at.invariant.2) in
+    walk_place _ c.args.len _ _ _ c.requires.indexed.chained (below_none c.requires.indexed) c.args.b c.requires.bucket c.loop-at.invariant.0 c.in-Some.i c.loop-at.invariant.1 (sym c.in-Some.is ∙ c.loop-at.invariant.2) in
     let i = c.in-Some.i in
     let low : i < c.args.len = omega (arith, w.0, c.loop-at.invariant.1) in (
       i,
       omega arith,
       c.place_of-at-in-Some.ensures
-      ∙ (walk_next c.requires.indexed c.args.b c.requires.bucket i c.next_of.result low w.2 c.next_of.ensures.value).0,
+      ∙ (walk_next _ c.args.len _ _ _ c.requires.indexed.chained (below_none c.requires.indexed) c.args.b c.requires.bucket i c.next_of.result low w.2 c.next_of.ensures.value).0,
       λ j d ge lt e.
           let past =
           unseen_past g.K.Compare.value c.requires.indexed c.args.k.now c.args.b c.requires.hashed
