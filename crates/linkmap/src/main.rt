@@ -19,10 +19,8 @@ use text::lines::without_newline;
 // Each place with its link.
 fn list(rt: &impl Print, links: &Links<'_>) -> io::Result<()>
 {
-    for place in 0..links.len() {
-        if let Some(line) = line_at(links, place) {
-            rt.println(line)?;
-        }
+    for line in (0..links.len()).filter_map(|place| line_at(links, place)) {
+        rt.println(line)?;
     }
     Ok(())
 }

@@ -18,14 +18,12 @@ fn add(links: &mut Links<'_>, from: Account, to: Account, price: Price) -> Answe
     ensures room { links.new.room ≡ links.old.room }
 {
     match links.find(&(from, to)) {
-        Ok(place) => match links.set_value(place, price) {
-            Some(old) => Answer::Replaced { price: old },
-            None => Answer::Nothing,
-        },
-        Err(w) => match links.append((from, to), price, w) {
-            Some(place) => Answer::New { place },
-            None => Answer::Refused(Refusal::LinksFull),
-        },
+        Ok(place) => links
+            .set_value(place, price)
+            .map_or(Answer::Nothing, |price| Answer::Replaced { price }),
+        Err(w) => links
+            .append((from, to), price, w)
+            .map_or(Answer::Refused(Refusal::LinksFull), |place| Answer::New { place }),
     }
 }
 
@@ -54,11 +52,7 @@ fn remove(links: &mut Links<'_>, from: Account, to: Account) -> Answer
     Answer::Removed {
         price: taken.entry.1,
         gap: taken.gap,
-        moved: if taken.last == taken.gap {
-            None
-        } else {
-            Some(taken.last)
-        },
+        moved: (taken.last != taken.gap).then_some(taken.last),
     }
 }
 
@@ -84,15 +78,12 @@ pub fn perform(links: &mut Links<'_>, command: Command) -> Answer
 pub fn line_at(links: &Links<'_>, place: usize) -> Option<Line>
     ensures { result ≡ listed place (slice_get links.now.entries place) }
 {
-    if place >= links.len() {
-        return None;
-    }
-    let (from, to) = links.key_at(place);
-    let price = links.value_at(place);
+    let link = links.as_slice().get(place)?;
+    let (from, to) = link.key;
     Some(Line {
         place,
         from,
         to,
-        price,
+        price: link.value,
     })
 }

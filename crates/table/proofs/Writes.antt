@@ -5,7 +5,7 @@ use Rattle.table.specs.declared.slot.Slot.{Slot}
 use Rattle.table.specs.Slots.{pairs, at, two, none, TwoSet}
 use Rattle.std.proofs.lemmas.Bool.{cases_eq, cond-true, cond-false, eq-eqb, ne_eqb}
 use Rattle.lists.specs.Latest.{latest}
-use Rattle.table.specs.Index.{homes, bit_of, off, held, capacity_of, bucket_of}
+use Rattle.table.specs.Index.{homes, bit_of, off, held, capacity_of, bucket_of, InBucket}
 use Rattle.table.proofs.Lists.{at_set, at_other, at_same}
 
 pub two_same : (l l' : List (List ℕ)) → l' ≡ l → (b : ℕ) → two l' b ≡ two l b
@@ -76,6 +76,13 @@ pub same_bucket : {K V : Type 0} (hashed : K → ℕ) (xs ys : List (Slot K V)) 
     → (i : ℕ) → bucket_of hashed ys i ≡ bucket_of hashed xs i
 same_bucket hashed xs ys e n i =
     ap (λ z. at (homes hashed z (pairs ys)) i) (same_capacity xs ys n) ∙ ap (λ z. at (homes hashed (capacity_of xs) z) i) e
+
+pub still_in_bucket : {K V : Type 0} (hashed : K → ℕ) (xs ys : List (Slot K V)) (i b : ℕ) → pairs ys ≡ pairs xs → length ys ≡ length xs
+    → InBucket hashed xs i b → InBucket hashed ys i b
+still_in_bucket hashed xs ys i b e n B = record {
+  below = omega (arith, B.below, same_capacity xs ys n);
+  home = same_bucket hashed xs ys e n i ∙ B.home;
+}
 
 -- the same chains, from links that are equal as lists
 pub relinked : (buckets n : ℕ) (h f : ℕ → ℕ) (ns ns' : List ℕ) → ns' ≡ ns → Chains none buckets n h f (at ns) → Chains none buckets n h f (at ns')

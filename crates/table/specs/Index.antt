@@ -30,7 +30,12 @@ tags hashed es = map (λ e. mark (hashed e.0)) es
 abbrev pub bucket_of : {K V : Type 0} → (K → ℕ) → List (Slot K V) → ℕ → ℕ
 bucket_of hashed xs i = at (homes hashed (capacity_of xs) (pairs xs)) i
 
--- the same, but that place g is in no bucket
+-- b is a bucket, and the one of place i
+pub record InBucket {K V : Type 0} (hashed : K → ℕ) (xs : List (Slot K V)) (i b : ℕ) : Type 0 where
+  pub below : b < 2 * capacity_of xs
+  pub home : bucket_of hashed xs i ≡ b
+
+-- the buckets of places, but that place g is in none
 abbrev pub off : ℕ → ℕ → (ℕ → ℕ) → ℕ → ℕ
 off buckets g h i = cond (i == g) buckets (h i)
 

@@ -1,9 +1,9 @@
 ghost use Rattle.std.specs.Prelude.{◌≡◌, ℕ, ◌*◌, ◌/◌, ◌<◌, ◌≤◌, length};
 ghost use Rattle.lists.specs.Chains.{Above, Put};
-ghost use Rattle.table.specs.Slots.{pairs, nexts, headed, marked, at, two};
-ghost use Rattle.table.specs.Index.{capacity_of, bucket_of, held, Chained, ChainedOff, ChainedBut};
+ghost use Rattle.table.specs.Slots.{nexts, headed, at, two, SameEntries};
+ghost use Rattle.table.specs.Index.{capacity_of, bucket_of, held, InBucket, Chained, ChainedOff, ChainedBut};
 
-use crate::slot::{NONE, Slot, head_of, next_of, set_head, set_next};
+use crate::slot::{Slot, head_of, next_of, place_of, set_head, set_next};
 use keys::nodes::NodeTrait;
 
 // The smallest place past `g` in bucket `b`, or `n`: what holds the link to `g`, or would.
@@ -15,10 +15,13 @@ fn above<K: NodeTrait, V: Copy>(slots: &[Slot<K, V>], n: usize, b: usize, g: usi
     ensures { Above n (bucket_of K.hashed slots.now) b g result }
 {
     let mut p = n;
-    let mut link = head_of(slots, b);
-    while link != NONE && link > g {
-        p = link;
-        link = next_of(slots, p);
+    let mut at = place_of(head_of(slots, b));
+    while let Some(i) = at {
+        if i <= g {
+            return p;
+        }
+        p = i;
+        at = place_of(next_of(slots, i));
     }
     p
 }
@@ -30,8 +33,7 @@ fn put<K: Copy, V: Copy>(slots: &mut [Slot<K, V>], n: usize, b: usize, p: usize,
     requires holder { p ≤ n }
     requires fits { v ≤ 65535 }
     ensures put { Put n b p v (two (headed slots.old)) (at (nexts slots.old)) (two (headed slots.new)) (at (nexts slots.new)) }
-    ensures marks { marked slots.new ≡ marked slots.old }
-    ensures pair { pairs slots.new ≡ pairs slots.old }
+    ensures entries { SameEntries slots.old slots.new }
 {
     if p == n {
         set_head(slots, b, v);
@@ -59,12 +61,10 @@ fn holds<K: Copy, V: Copy>(slots: &[Slot<K, V>], n: usize, b: usize, p: usize) -
 pub(crate) fn unlink<K: NodeTrait, V: Copy>(slots: &mut [Slot<K, V>], n: usize, b: usize, g: usize)
     requires chained { Chained K.hashed slots.old n }
     requires small { n ≤ capacity_of slots.old }
-    requires bucket { b < 2 * capacity_of slots.old }
     requires place { g < n }
-    requires home { bucket_of K.hashed slots.old g ≡ b }
+    requires bucket { InBucket K.hashed slots.old g b }
     ensures chained { ChainedOff K.hashed slots.new n g }
-    ensures marks { marked slots.new ≡ marked slots.old }
-    ensures pair { pairs slots.new ≡ pairs slots.old }
+    ensures entries { SameEntries slots.old slots.new }
 {
     let p = above(slots, n, b, g);
     let v = next_of(slots, g);
@@ -75,12 +75,10 @@ pub(crate) fn unlink<K: NodeTrait, V: Copy>(slots: &mut [Slot<K, V>], n: usize, 
 pub(crate) fn link<K: NodeTrait, V: Copy>(slots: &mut [Slot<K, V>], n: usize, b: usize, g: usize)
     requires chained { ChainedOff K.hashed slots.old n g }
     requires small { n ≤ capacity_of slots.old }
-    requires bucket { b < 2 * capacity_of slots.old }
     requires place { g < n }
-    requires home { bucket_of K.hashed slots.old g ≡ b }
+    requires bucket { InBucket K.hashed slots.old g b }
     ensures chained { Chained K.hashed slots.new n }
-    ensures marks { marked slots.new ≡ marked slots.old }
-    ensures pair { pairs slots.new ≡ pairs slots.old }
+    ensures entries { SameEntries slots.old slots.new }
 {
     let p = above(slots, n, b, g);
     let v = holds(slots, n, b, p);

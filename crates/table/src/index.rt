@@ -1,13 +1,13 @@
 ghost use Rattle.std.specs.Prelude.{◌≡◌, ℕ, ◌+◌, ◌-◌, ◌*◌, ◌<◌, ◌≤◌, length, take, MatchOption, slice_index_or, slice_set};
 ghost use Rattle.lists.specs.Swap.{swap_removed};
-ghost use Rattle.table.specs.Slots.{pairs, headed, marked, two, none};
-ghost use Rattle.table.specs.Index.{capacity_of, home, mark, bucket_of, Chained, Indexed};
+ghost use Rattle.table.specs.Slots.{pairs, headed, marked, two, none, SameEntries};
+ghost use Rattle.table.specs.Index.{capacity_of, home, mark, InBucket, Chained, Indexed};
 ghost use Rattle.table.specs.Searches.{Absent, Present};
 ghost use Rattle.table.specs.Tables.{vacancy};
 
 use crate::chain::{link, unlink};
 use crate::slot::{
-    NONE, Slot, head_of, key_of, marks_of, next_of, set_head, set_marks, set_next, set_pair,
+    NONE, Slot, head_of, key_of, marks_of, next_of, place_of, set_head, set_marks, set_next, set_pair,
     value_of,
 };
 use crate::table::Vacancy;
@@ -38,8 +38,7 @@ fn mark_of(hash: u64) -> u8
 // The bucket of the key at place `i`.
 fn home_at<K: NodeTrait, V: Copy>(slots: &[Slot<K, V>], i: usize) -> usize
     requires { i < capacity_of slots.now }
-    ensures home { result ≡ bucket_of K.hashed slots.now i }
-    ensures below { result < 2 * capacity_of slots.now }
+    ensures { InBucket K.hashed slots.now i result }
 {
     home_of(key_of(slots, i).hash(), capacity_of(slots))
 }
@@ -54,7 +53,7 @@ pub(crate) fn reset<K: Copy, V: Copy>(slots: &mut [Slot<K, V>])
     }
 }
 
-// Empties the buckets of the first `len` places.
+// Empties the buckets of the first `len` places. A place's bucket lies at another place.
 pub(crate) fn release<K: NodeTrait, V: Copy>(slots: &mut [Slot<K, V>], len: usize)
     requires { Indexed K.hashed slots.old len }
     ensures { (b : ℕ) → b < 2 * capacity_of slots.new → two (headed slots.new) b ≡ none }
@@ -73,12 +72,12 @@ fn trace<K: NodeTrait, V: Copy>(slots: &[Slot<K, V>], len: usize, k: &K, b: usiz
     requires hashed { (j : K) → K.value j ≡ K.value k.now → home (capacity_of slots.now) (K.hashed j) ≡ b }
     ensures { MatchOption result (Absent K.value (take len (pairs slots.now)) k.now) (Present K.value (take len (pairs slots.now)) k.now) }
 {
-    let mut link = head_of(slots, b);
-    while link != NONE {
-        if slots[link].key == *k {
-            return Some(link);
+    let mut at = place_of(head_of(slots, b));
+    while let Some(i) = at {
+        if slots[i].key == *k {
+            return Some(i);
         }
-        link = next_of(slots, link);
+        at = place_of(next_of(slots, i));
     }
     None
 }
@@ -127,12 +126,10 @@ pub(crate) fn enter<K: NodeTrait, V: Copy>(
 // Takes the last place out of its bucket `b`, whose head it is.
 fn detach<K: NodeTrait, V: Copy>(slots: &mut [Slot<K, V>], last: usize, b: usize)
     requires fits { last < capacity_of slots.old }
-    requires bucket { b < 2 * capacity_of slots.old }
-    requires home { bucket_of K.hashed slots.old last ≡ b }
+    requires bucket { InBucket K.hashed slots.old last b }
     requires chained { Chained K.hashed slots.old (last + 1) }
     ensures chained { Chained K.hashed slots.new last }
-    ensures marks { marked slots.new ≡ marked slots.old }
-    ensures pair { pairs slots.new ≡ pairs slots.old }
+    ensures entries { SameEntries slots.old slots.new }
 {
     let after = next_of(slots, last);
     set_head(slots, b, after);
@@ -147,11 +144,9 @@ fn relocate<K: NodeTrait, V: Copy>(
     gone: usize,
 )
     requires fits { last < capacity_of slots.old }
-    requires bucket { b < 2 * capacity_of slots.old }
-    requires home { bucket_of K.hashed slots.old last ≡ b }
+    requires bucket { InBucket K.hashed slots.old last b }
     requires place { g < last }
-    requires old_bucket { gone < 2 * capacity_of slots.old }
-    requires old_home { bucket_of K.hashed slots.old g ≡ gone }
+    requires old_bucket { InBucket K.hashed slots.old g gone }
     requires chained { Chained K.hashed slots.old last }
     ensures chained { Chained K.hashed slots.new last }
     ensures marks { marked slots.new ≡ marked slots.old }

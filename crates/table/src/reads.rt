@@ -1,7 +1,8 @@
 ghost use Rattle.std.specs.Prelude.{◌≡◌, ◌<◌, length, slice_index_or};
+ghost use Rattle.table.specs.Slots.{pairs};
 
 use crate::index::capacity_of;
-use crate::slot::{key_of, value_of};
+use crate::slot::{Slot, key_of, value_of};
 use crate::table::Table;
 use keys::nodes::NodeTrait;
 
@@ -18,6 +19,13 @@ impl<'a, K: NodeTrait, V: Copy> Table<'a, K, V> {
         ensures { result ≡ self.now.room }
     {
         capacity_of(self.slots)
+    }
+
+    /// The slots of the entries, by place.
+    pub fn as_slice(&self) -> &[Slot<K, V>]
+        ensures { pairs result.now ≡ self.now.entries }
+    {
+        &self.slots[..self.len]
     }
 
     /// The key at a place.

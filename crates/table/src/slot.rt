@@ -1,5 +1,5 @@
 ghost use Rattle.std.specs.Prelude.{◌≡◌, ℕ, ◌/◌, ◌<◌, ◌≤◌, [], ◌∷◌, length, slice_index_or, slice_set};
-ghost use Rattle.table.specs.Slots.{pairs, nexts, headed, marked, at, two, none, TwoSet, fresh_slot};
+ghost use Rattle.table.specs.Slots.{pairs, nexts, headed, marked, at, two, none, place_of, TwoSet, fresh_slot};
 
 /// What a link holds where its chain ends.
 pub const NONE: usize = 65535;
@@ -76,6 +76,13 @@ pub(crate) fn next_of<K: Copy, V: Copy>(slots: &[Slot<K, V>], i: usize) -> usize
     ensures fits { result ≤ 65535 }
 {
     slots[i].next as usize
+}
+
+// The place that a link leads to; none at the end of a chain.
+pub(crate) fn place_of(link: usize) -> Option<usize>
+    ensures { result ≡ place_of link }
+{
+    (link != NONE).then_some(link)
 }
 
 pub(crate) fn key_of<K: Copy, V: Copy>(slots: &[Slot<K, V>], i: usize) -> K

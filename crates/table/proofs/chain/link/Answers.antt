@@ -20,7 +20,7 @@ above-p-requires g c =
             chains = c.requires.chained;
           };
       small = c.requires.small;
-      bucket = c.requires.bucket;
+      bucket = c.requires.bucket.below;
       place = c.requires.place;
     }
 
@@ -29,7 +29,7 @@ holds-v-requires g c =
     let s = c.args.slots.now in
     record {
       small = omega (arith, c.requires.small, within_memory s);
-      bucket = bucket_slot s c.args.b c.requires.bucket;
+      bucket = bucket_slot s c.args.b c.requires.bucket.below;
       holder = c.above-p.ensures.within;
     }
 
@@ -44,7 +44,7 @@ put-requires g c =
     let s = c.args.slots.now in
     record {
       small = omega (arith, c.requires.small, within_memory s);
-      bucket = omega (arith, bucket_slot s c.args.b c.requires.bucket);
+      bucket = omega (arith, bucket_slot s c.args.b c.requires.bucket.below);
       holder = c.above-p.ensures.within;
       fits = omega (arith, c.requires.place, c.requires.small, within_links s);
     }
@@ -63,15 +63,17 @@ returns g c =
     record {
       chained =
           settled g.K.NodeTrait.hashed (capacity_of s) (capacity_of t) n (pairs s) (pairs t) (two (headed t)) (at (nexts t))
-          (same_capacity s t same) (c.put.ensures.pair ∙ c.set_next.ensures.pair)
+          (same_capacity s t same) (c.put.ensures.entries.pair ∙ c.set_next.ensures.pair)
           (linked none buckets n c.args.b c.args.g c.above-p.result c.holds-v.result (off buckets c.args.g h) (two (headed s)) (at (nexts s))
           h (two (headed t)) (at (nexts r)) (at (nexts t))
-          (omega (arith, c.requires.small, within_links s)) c.requires.chained A c.requires.place c.requires.bucket (omega (arith, off_here buckets c.args.g h))
-          (c.holds-v.ensures.value ∙ held_latest buckets n c.args.b c.above-p.result _ _ _ c.requires.chained c.requires.bucket A.within A.here)
+          (omega (arith, c.requires.small, within_links s)) c.requires.chained A c.requires.place c.requires.bucket.below (omega (arith, off_here buckets c.args.g h))
+          (c.holds-v.ensures.value ∙ held_latest buckets n c.args.b c.above-p.result _ _ _ c.requires.chained c.requires.bucket.below A.within A.here)
           (at_set (nexts s) (nexts r) c.args.g _ c.set_next.ensures.next (simp length-map (omega (arith, c.requires.place, c.requires.small, within_memory s))))
           (at_other (nexts s) (nexts r) c.args.g _ c.set_next.ensures.next)
           (put_after n c.args.b c.above-p.result c.args.g (headed s) (headed r) _ _ _ c.set_next.ensures.heads c.put.ensures.put)
-          c.requires.home (λ i ne. sym (off_other buckets c.args.g h i ne)));
-      marks = c.put.ensures.marks ∙ c.set_next.ensures.marks;
-      pair = c.put.ensures.pair ∙ c.set_next.ensures.pair;
+          c.requires.bucket.home (λ i ne. sym (off_other buckets c.args.g h i ne)));
+      entries = record {
+        marks = c.put.ensures.entries.marks ∙ c.set_next.ensures.marks;
+        pair = c.put.ensures.entries.pair ∙ c.set_next.ensures.pair;
+      };
     }

@@ -9,8 +9,7 @@ returns-then-p-n g c = record {
   put =
       put_head _ _ _ _ (headed c.args.slots.now) _ (nexts c.args.slots.now) _ c.if-p-n.true
       c.set_head.ensures.heads c.set_head.ensures.next;
-  marks = c.set_head.ensures.marks;
-  pair = c.set_head.ensures.pair;
+  entries = record { marks = c.set_head.ensures.marks; pair = c.set_head.ensures.pair };
 }
 
 pub returns-else-p-n : goal.returns-else-p-n
@@ -21,6 +20,5 @@ returns-else-p-n g c =
       put =
           put_link _ _ _ _ (headed c.args.slots.now) _ (nexts c.args.slots.now) _ pn (simp length-map lt)
           c.set_next.ensures.heads c.set_next.ensures.next;
-      marks = c.set_next.ensures.marks;
-      pair = c.set_next.ensures.pair;
+      entries = record { marks = c.set_next.ensures.marks; pair = c.set_next.ensures.pair };
     }

@@ -10,7 +10,7 @@ pub above-p-requires : goal.above-p-requires
 above-p-requires g c = record {
   chained = record { bucket = _; agrees = λ i _. refl; chains = c.requires.chained };
   small = c.requires.small;
-  bucket = c.requires.bucket;
+  bucket = c.requires.bucket.below;
   place = c.requires.place;
 }
 
@@ -22,7 +22,7 @@ put-requires g c =
     let s = c.args.slots.now in
     record {
       small = omega (arith, c.requires.small, within_memory s);
-      bucket = bucket_slot s c.args.b c.requires.bucket;
+      bucket = bucket_slot s c.args.b c.requires.bucket.below;
       holder = c.above-p.ensures.within;
       fits = c.next_of-v.ensures.fits;
     }
@@ -38,11 +38,10 @@ returns g c =
     record {
       chained =
           settled_off g.K.NodeTrait.hashed (capacity_of s) (capacity_of t) n (pairs s) (pairs t) (two (headed t)) (at (nexts t))
-          (same_capacity s t same) c.put.ensures.pair c.args.g
+          (same_capacity s t same) c.put.ensures.entries.pair c.args.g
           (unlinked none buckets n c.args.b c.args.g c.above-p.result c.next_of-v.result h (two (headed s)) (at (nexts s))
           (off buckets c.args.g h) (two (headed t)) (at (nexts t))
-          (omega (arith, c.requires.small, within_links s)) c.requires.chained c.above-p.ensures c.requires.place c.requires.bucket c.requires.home
+          (omega (arith, c.requires.small, within_links s)) c.requires.chained c.above-p.ensures c.requires.place c.requires.bucket.below c.requires.bucket.home
           c.next_of-v.ensures.value c.put.ensures.put (omega (arith, off_here buckets c.args.g h)) (off_other buckets c.args.g h));
-      marks = c.put.ensures.marks;
-      pair = c.put.ensures.pair;
+      entries = c.put.ensures.entries;
     }

@@ -12,7 +12,7 @@ next_of-after-requires g c = omega (arith, c.requires.fits, within_memory c.args
 
 pub set_head-requires : goal.set_head-requires
 set_head-requires g c = record {
-  within = bucket_slot c.args.slots.now c.args.b c.requires.bucket;
+  within = bucket_slot c.args.slots.now c.args.b c.requires.bucket.below;
   fits = c.next_of-after.ensures.fits;
 }
 
@@ -29,8 +29,7 @@ returns g c =
           settled g.K.NodeTrait.hashed (capacity_of s) (capacity_of t) last (pairs s) (pairs t) (two (headed t)) (at (nexts t))
           (same_capacity s t (omega arith)) c.set_head.ensures.pair
           (relinked buckets last h (two (headed t)) (nexts s) (nexts t) c.set_head.ensures.next
-          (popped none buckets last c.args.b h (two (headed s)) (at (nexts s)) (two (headed t)) L c.requires.home c.requires.bucket
+          (popped none buckets last c.args.b h (two (headed s)) (at (nexts s)) (two (headed t)) L c.requires.bucket.home c.requires.bucket.below
           (c.set_head.ensures.heads.here ∙ c.next_of-after.ensures.value) c.set_head.ensures.heads.there));
-      marks = c.set_head.ensures.marks;
-      pair = c.set_head.ensures.pair;
+      entries = record { marks = c.set_head.ensures.marks; pair = c.set_head.ensures.pair };
     }

@@ -5,7 +5,7 @@ use Rattle.table.specs.Slots.{pairs}
 use Rattle.table.specs.Index.{capacity_of, Marked}
 use Rattle.table.proofs.Capacity.{within_memory}
 use Rattle.table.proofs.Moves.{marked_same, marked_moved}
-use Rattle.table.proofs.Writes.{same_capacity, same_bucket}
+use Rattle.table.proofs.Writes.{same_capacity, still_in_bucket}
 use Rattle.table.proofs.index.extract.Goals as goal
 
 pub home_at-gone-requires : goal.home_at-gone-requires
@@ -20,8 +20,7 @@ detach-requires g c =
     let last : c.args.len - 1 + 1 ≡ c.args.len = omega (arith, c.requires.place) in
     record {
       fits = omega (arith, c.requires.place, c.requires.indexed.fits);
-      bucket = c.home_at-b.ensures.below;
-      home = sym c.home_at-b.ensures.home;
+      bucket = c.home_at-b.ensures;
       chained = rw last c.requires.indexed.chained;
     }
 
@@ -36,7 +35,7 @@ tidy-requires g c =
         fits = omega (arith, c.requires.indexed.fits);
         chained = c.detach.ensures.chained;
         marks =
-          marked_same g.K.NodeTrait.hashed s u c.args.len (c.args.len - 1) c.requires.indexed.marks (omega arith) c.detach.ensures.pair c.detach.ensures.marks (omega arith);
+          marked_same g.K.NodeTrait.hashed s u c.args.len (c.args.len - 1) c.requires.indexed.marks (omega arith) c.detach.ensures.entries.pair c.detach.ensures.entries.marks (omega arith);
       };
     }
 
@@ -44,7 +43,7 @@ pub returns-then-g-last : goal.returns-then-g-last
 returns-then-g-last g c =
     let s = c.args.slots.now in
     let t = c.tidy.new.slots in
-    let same : pairs t ≡ pairs s = c.tidy.ensures.pair ∙ c.detach.ensures.pair in
+    let same : pairs t ≡ pairs s = c.tidy.ensures.pair ∙ c.detach.ensures.entries.pair in
     record {
       indexed = c.tidy.ensures.indexed;
       entries =
@@ -60,11 +59,9 @@ relocate-requires g c =
     let hashed = g.K.NodeTrait.hashed in
     record {
       fits = omega (arith, c.requires.place, c.requires.indexed.fits);
-      bucket = omega (arith, c.home_at-b.ensures.below);
-      home = same_bucket hashed s u c.detach.ensures.pair (omega arith) (c.args.len - 1) ∙ sym c.home_at-b.ensures.home;
+      bucket = still_in_bucket hashed s u (c.args.len - 1) c.home_at-b.result c.detach.ensures.entries.pair (omega arith) c.home_at-b.ensures;
       place = omega arith;
-      old_bucket = omega (arith, c.home_at-gone.ensures.below);
-      old_home = same_bucket hashed s u c.detach.ensures.pair (omega arith) c.args.g ∙ sym c.home_at-gone.ensures.home;
+      old_bucket = still_in_bucket hashed s u c.args.g c.home_at-gone.result c.detach.ensures.entries.pair (omega arith) c.home_at-gone.ensures;
       chained = c.detach.ensures.chained;
     }
 
@@ -83,8 +80,8 @@ tidy-requires-2 g c =
         chained = c.relocate.ensures.chained;
         marks =
           marked_moved g.K.NodeTrait.hashed s r (c.args.len - 1) c.args.g M (omega (arith, c.requires.place)) (omega (arith, c.requires.place, c.requires.indexed.fits, within_memory s))
-          (λ d. c.relocate.ensures.pair d ∙ ap (λ z. set z c.args.g (get_or z (c.args.len - 1) d)) c.detach.ensures.pair)
-          (c.relocate.ensures.marks ∙ c.detach.ensures.marks) (omega arith);
+          (λ d. c.relocate.ensures.pair d ∙ ap (λ z. set z c.args.g (get_or z (c.args.len - 1) d)) c.detach.ensures.entries.pair)
+          (c.relocate.ensures.marks ∙ c.detach.ensures.entries.marks) (omega arith);
       };
     }
 
@@ -96,7 +93,7 @@ returns g c =
     let same : (d : g.row.K.Denot × g.row.V.Denot) → pairs t ≡ set (pairs s) c.args.g (get_or (pairs s) last d) =
     λ d.
     c.tidy-2.ensures.pair
-    ∙ (c.relocate.ensures.pair d ∙ ap (λ z. set z c.args.g (get_or z last d)) c.detach.ensures.pair) in
+    ∙ (c.relocate.ensures.pair d ∙ ap (λ z. set z c.args.g (get_or z last d)) c.detach.ensures.entries.pair) in
     let fits : c.args.len ≤ length (pairs s) = simp length-map (omega (arith, c.requires.indexed.fits, within_memory s)) in
     record {
       indexed = c.tidy-2.ensures.indexed;

@@ -20,8 +20,7 @@ returns g c =
     let lt : c.args.i < length s = omega (arith, c.requires, within_memory s) in
     record {
       home =
-          e
-          ∙ (ap (λ z. home (capacity_of s) z) (sym (c.hash.ensures c.key_of.result refl))
-          ∙ sym (home_at g.K.NodeTrait.hashed (capacity_of s) (pairs s) c.args.i c.key_of.result (simp length-map lt) c.key_of.ensures));
+          home_at g.K.NodeTrait.hashed (capacity_of s) (pairs s) c.args.i c.key_of.result (simp length-map lt) c.key_of.ensures
+          ∙ (ap (λ z. home (capacity_of s) z) (c.hash.ensures c.key_of.result refl) ∙ sym e);
       below = omega (arith, e, home_below (capacity_of s) c.hash.result (omega arith));
     }

@@ -30,7 +30,7 @@ loop-i-preserved g c =
     let i = c.loop-i.i in
     let b₀ = c.home_at-b.result in
     let here : bucket_of g.K.NodeTrait.hashed s i ≡ b₀ =
-    sym (c.home_at-b.ensures.home ∙ same_bucket g.K.NodeTrait.hashed s t c.loop-i.invariant.0 (omega arith) i) in
+    sym (same_bucket g.K.NodeTrait.hashed s t c.loop-i.invariant.0 (omega arith) i) ∙ c.home_at-b.ensures.home in
     let heads = c.set_head.ensures.heads in
     let same = two_same (headed c.set_head.new.slots) (headed c.set_marks.new.slots) c.set_marks.ensures.heads in (
       c.set_marks.ensures.pair ∙ (c.set_head.ensures.pair ∙ c.loop-i.invariant.0),

@@ -13,9 +13,8 @@ pub unlink-requires : goal.unlink-requires
 unlink-requires g c = record {
   chained = c.requires.chained;
   small = omega (arith, c.requires.fits);
-  bucket = c.requires.old_bucket;
   place = c.requires.place;
-  home = c.requires.old_home;
+  bucket = c.requires.old_bucket;
 }
 
 pub key_of-k-requires : goal.key_of-k-requires
@@ -40,24 +39,26 @@ link-requires g c =
           moved_off c.args.g (pairs u) (pairs t) e c.set_pair.ensures.pair hashed (capacity_of u) (capacity_of t) c.args.last (headed u) (headed t) (nexts u) (nexts t)
           (same_capacity u t (omega arith)) c.set_pair.ensures.heads c.set_pair.ensures.next c.unlink.ensures.chained;
       small = omega (arith, c.requires.fits);
-      bucket = omega (arith, c.requires.bucket);
       place = c.requires.place;
-      home =
+      bucket = record {
+        below = omega (arith, c.requires.bucket.below);
+        home =
           written_home c.args.g (pairs u) (pairs t) e c.set_pair.ensures.pair hashed (capacity_of t) (simp length-map (omega (arith, c.requires.fits, c.requires.place, within_memory s)))
           ∙ (ap (λ z. home z (hashed c.key_of-k.result)) same
           ∙ (sym (home_at hashed (capacity_of s) (pairs u) c.args.last c.key_of-k.result (simp length-map (omega (arith, c.requires.fits, within_memory s))) c.key_of-k.ensures)
-          ∙ (ap (λ z. at (homes hashed (capacity_of s) z) c.args.last) c.unlink.ensures.pair ∙ c.requires.home)));
+          ∙ (ap (λ z. at (homes hashed (capacity_of s) z) c.args.last) c.unlink.ensures.entries.pair ∙ c.requires.bucket.home)));
+      };
     }
 
 pub returns : goal.returns
 returns g c = record {
   chained = c.link.ensures.chained;
-  marks = c.link.ensures.marks ∙ (c.set_pair.ensures.marks ∙ c.unlink.ensures.marks);
+  marks = c.link.ensures.entries.marks ∙ (c.set_pair.ensures.marks ∙ c.unlink.ensures.entries.marks);
   pair = λ d.
-      c.link.ensures.pair
+      c.link.ensures.entries.pair
       ∙ (c.set_pair.ensures.pair
-      ∙ (ap (λ z. set z c.args.g (c.key_of-k.result, c.value_of-v.result)) c.unlink.ensures.pair
+      ∙ (ap (λ z. set z c.args.g (c.key_of-k.result, c.value_of-v.result)) c.unlink.ensures.entries.pair
       ∙ ap (λ z. set (pairs c.args.slots.now) c.args.g z)
       (pair_is _ _ _ (c.key_of-k.ensures d) (c.value_of-v.ensures d)
-      ∙ ap (λ z. get_or z c.args.last d) c.unlink.ensures.pair)));
+      ∙ ap (λ z. get_or z c.args.last d) c.unlink.ensures.entries.pair)));
 }
