@@ -2,8 +2,6 @@
 // says how it is used.
 #![tactic(auto)]
 
-ghost use Rattle.std.specs.Prelude.{◌<◌};
-
 use keys::nodes::Account;
 use keys::weights::Price;
 use linktable::links::Links;
@@ -22,8 +20,32 @@ enum Keys {
     Scattered,
 }
 
+impl Keys {
+    // The i-th key.
+    fn key(self, i: u32) -> (Account, Account) {
+        match self {
+            Keys::Consecutive => (
+                Account((i / 8).wrapping_add(1000)),
+                Account(i.wrapping_add(2000)),
+            ),
+            Keys::Scattered => {
+                let x = i.wrapping_mul(2_654_435_761) ^ (i >> 7);
+                (
+                    Account(x),
+                    Account(x.wrapping_mul(2_246_822_519).wrapping_add(i)),
+                )
+            }
+        }
+    }
+
+    // The i-th of n keys from the `first` on, in an order that jumps about.
+    fn jumped(self, first: u32, i: u32, n: u32) -> (Account, Account) {
+        self.key(first.wrapping_add(i.wrapping_mul(7919) % n.max(1)))
+    }
+}
+
 // The nanoseconds of each kind of operation, summed over the rounds.
-#[derive(Clone, Copy)]
+#[derive(Clone, Copy, Default)]
 struct Times {
     fill: u128,
     hit: u128,
@@ -31,74 +53,44 @@ struct Times {
     remove: u128,
 }
 
-// The i-th key.
-fn key(keys: Keys, i: u32) -> (Account, Account) {
-    match keys {
-        Keys::Consecutive => (
-            Account((i / 8).wrapping_add(1000)),
-            Account(i.wrapping_add(2000)),
-        ),
-        Keys::Scattered => {
-            let x = i.wrapping_mul(2_654_435_761) ^ (i >> 7);
-            (
-                Account(x),
-                Account(x.wrapping_mul(2_246_822_519).wrapping_add(i)),
-            )
-        }
-    }
+// What `work` answers. The nanoseconds that it takes are added to `total`.
+fn timed<R: Copy, W: FnOnce() -> R>(
+    rt: &HostRuntime,
+    total: &mut u128,
+    work: W,
+) -> anyhow::Result<R>
+    requires { W.IsAlwaysCallable work }
+{
+    let clock = Instant::now(rt)?;
+    let answer = work();
+    *total = total.saturating_add(clock.elapsed(rt)?.as_nanos());
+    Ok(answer)
 }
 
-// The i-th of n numbers in an order that jumps about.
-fn jumped(i: u32, n: u32) -> u32
-    requires { 0 < n }
-{
-    i.wrapping_mul(7919) % n
-}
-
-fn put(t: &mut Links<'_>, k: (Account, Account), price: Price)
-{
-    let Err(w) = t.find(&k) else {
-        return;
-    };
-    let _ = t.append(k, price, w);
-}
-
-fn take(t: &mut Links<'_>, k: (Account, Account)) -> usize
-{
-    let Ok(place) = t.find(&k) else {
-        return 0;
-    };
-    match t.swap_remove(place) {
-        Some(taken) => taken.last,
-        None => 0,
-    }
-}
-
-fn fill(t: &mut Links<'_>, keys: Keys, n: u32)
-{
+fn fill(t: &mut Links<'_>, keys: Keys, n: u32) {
     for i in 0..n {
-        put(t, key(keys, i), Price(i));
+        let k = keys.key(i);
+        if let Err(w) = t.find(&k) {
+            let _ = t.append(k, Price(i), w);
+        }
     }
 }
 
 // Looks for n keys from the `first` on, and sums the places.
-fn look(t: &Links<'_>, keys: Keys, first: u32, n: u32) -> usize
-{
-    let mut sum = 0usize;
-    for i in 0..n {
-        let k = key(keys, first.wrapping_add(jumped(i, n)));
-        if let Ok(place) = t.find(&k) {
-            sum = sum.wrapping_add(place);
-        }
-    }
-    sum
+fn look(t: &Links<'_>, keys: Keys, first: u32, n: u32) -> usize {
+    (0..n)
+        .filter_map(|i| t.find(&keys.jumped(first, i, n)).ok())
+        .fold(0, |sum: usize, place| sum.wrapping_add(place))
 }
 
-fn remove(t: &mut Links<'_>, keys: Keys, n: u32) -> usize
-{
+// Takes n keys out, and sums the places that were the last.
+fn remove(t: &mut Links<'_>, keys: Keys, n: u32) -> usize {
     let mut sum = 0usize;
     for i in 0..n {
-        sum = sum.wrapping_add(take(t, key(keys, jumped(i, n))));
+        if let Ok(place) = t.find(&keys.jumped(0, i, n)) {
+            let last = t.swap_remove(place).map_or(0, |taken| taken.last);
+            sum = sum.wrapping_add(last);
+        }
     }
     sum
 }
@@ -109,49 +101,25 @@ fn round(
     t: &mut Links<'_>,
     keys: Keys,
     n: u32,
-    times: Times,
-) -> anyhow::Result<(Times, usize)>
-{
-    let clock = Instant::now(rt)?;
-    fill(t, keys, n);
-    let filled = clock.elapsed(rt)?.as_nanos();
-    let clock = Instant::now(rt)?;
-    let mut sum = look(t, keys, 0, n);
-    let hit = clock.elapsed(rt)?.as_nanos();
-    let clock = Instant::now(rt)?;
-    sum = sum.wrapping_add(look(t, keys, 1_000_000, n));
-    let missed = clock.elapsed(rt)?.as_nanos();
-    let clock = Instant::now(rt)?;
-    sum = sum.wrapping_add(remove(t, keys, n));
-    let removed = clock.elapsed(rt)?.as_nanos();
-    let times = Times {
-        fill: times.fill.saturating_add(filled),
-        hit: times.hit.saturating_add(hit),
-        miss: times.miss.saturating_add(missed),
-        remove: times.remove.saturating_add(removed),
-    };
-    Ok((times, sum))
+    times: &mut Times,
+) -> anyhow::Result<usize> {
+    timed(rt, &mut times.fill, || fill(t, keys, n))?;
+    let found = timed(rt, &mut times.hit, || look(t, keys, 0, n))?;
+    let missed = timed(rt, &mut times.miss, || look(t, keys, 1_000_000, n))?;
+    let removed = timed(rt, &mut times.remove, || remove(t, keys, n))?;
+    Ok(found.wrapping_add(missed).wrapping_add(removed))
 }
 
 // Fills a table of n slots with n keys again and again.
-fn time(rt: &HostRuntime, name: &str, keys: Keys, n: u32) -> anyhow::Result<()>
-    requires { 0 < n }
-{
+fn time(rt: &HostRuntime, name: &str, keys: Keys, n: u32) -> anyhow::Result<()> {
     let vacant = Slot::new((Account(0), Account(0)), Price(0));
     let mut memory = vec![in rt.alloc(); vacant; n as usize]?;
     let mut t = Table::new(memory.as_mut_slice());
-    let mut times = Times {
-        fill: 0,
-        hit: 0,
-        miss: 0,
-        remove: 0,
-    };
+    let mut times = Times::default();
     let mut sum = 0usize;
-    let rounds = OPERATIONS / n;
+    let rounds = OPERATIONS / n.max(1);
     for _ in 0..rounds {
-        let (all, places) = round(rt, &mut t, keys, n, times)?;
-        times = all;
-        sum = sum.wrapping_add(places);
+        sum = sum.wrapping_add(round(rt, &mut t, keys, n, &mut times)?);
     }
     let each = u128::from(rounds).saturating_mul(u128::from(n)).max(1);
     print!(rt;
@@ -177,12 +145,10 @@ fn time_all(rt: &HostRuntime) -> anyhow::Result<()> {
 }
 
 fn run(rt: &HostRuntime) -> anyhow::Result<()> {
-    let mut words = env::args(rt)?.skip(1);
-    let Some(_) = words.next() else {
-        println!(rt; "usage: tablebench run")?;
-        return Ok(());
-    };
-    time_all(rt)
+    match env::args(rt)?.nth(1) {
+        Some(_) => time_all(rt),
+        None => Ok(println!(rt; "usage: tablebench run")?),
+    }
 }
 
 fn main(rt: HostRuntime) -> anyhow::Result<()> {
