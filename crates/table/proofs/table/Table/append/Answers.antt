@@ -1,12 +1,10 @@
-use Rattle.std.proofs.Common.{◌≡◌, ◌+◌, ◌<◌, ltb, Err, [], ◌∷◌, ◌++◌, length, take, Some, sym, refl, ap, subst, ◌∙◌, arith}
-use Rattle.std.proofs.lemmas.List.{length-map, take_more_set}
+use Rattle.std.proofs.Common.{◌≡◌, ◌<◌, ltb, Err, [], ◌∷◌, ◌++◌, length, take, Some, sym, refl, ap, subst, ◌∙◌, arith}
 use Rattle.std.proofs.lemmas.Bool.{cond-true, cond-false, lt-ltb, le-ltb}
 use Rattle.table.specs.declared.table.Vacancy.{Vacancy}
 use Rattle.table.specs.Slots.{pairs}
 use Rattle.table.specs.Index.{capacity_of}
 use Rattle.table.specs.Tables.{sought}
 use Rattle.table.proofs.Apart.{apart_push}
-use Rattle.table.proofs.Capacity.{within_memory}
 use Rattle.table.proofs.Entries.{length_entries, take_set_end}
 use Rattle.table.proofs.Homes.{home_below}
 use Rattle.table.proofs.Seeks.{sought_vacant}
