@@ -21,9 +21,10 @@ fn add(links: &mut Links<'_>, from: Account, to: Account, price: Price) -> Answe
         Ok(place) => links
             .set_value(place, price)
             .map_or(Answer::Nothing, |price| Answer::Replaced { price }),
-        Err(w) => links
-            .append((from, to), price, w)
-            .map_or(Answer::Refused(Refusal::LinksFull), |place| Answer::New { place }),
+        Err(w) => links.append((from, to), price, w).map_or(
+            Answer::Refused(Refusal::LinksFull),
+            |place| Answer::New { place },
+        ),
     }
 }
 

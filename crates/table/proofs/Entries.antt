@@ -1,11 +1,11 @@
 -- The entries of a table, in the slots that hold them.
-use Rattle.std.proofs.Common.{◌≡◌, ℕ, ◌+◌, ◌*◌, ◌<◌, ◌≤◌, List, [], ◌∷◌, ◌++◌, length, get_or, take, set, ap, ◌∙◌, arith}
+use Rattle.std.proofs.Common.{◌≡◌, ℕ, ◌+◌, ◌*◌, ◌<◌, ◌≤◌, List, [], ◌∷◌, ◌++◌, length, get_or, take, set, sym, ap, ◌∙◌, arith}
 use Rattle.std.proofs.lemmas.List.{length-take-le, length-map, get_or-take, get_or-map, take_more_set}
 use Rattle.lists.proofs.Chains.{emptied}
 use Rattle.table.specs.declared.slot.Slot.{Slot}
 use Rattle.table.specs.Slots.{pairs, headed, two, none}
 use Rattle.table.specs.Index.{capacity_of, Indexed}
-use Rattle.table.specs.Content.{Sound}
+use Rattle.table.specs.Content.{Content, content, Sound}
 use Rattle.table.proofs.Capacity.{within_memory, within_links}
 
 module _ {K V : Type 0} {hashed : K → ℕ} {xs : List (Slot K V)} {len : ℕ} (I : Indexed hashed xs len) where
@@ -17,6 +17,10 @@ module _ {K V : Type 0} {hashed : K → ℕ} {xs : List (Slot K V)} {len : ℕ} 
 
   pub length_entries : length (take len (pairs xs)) ≡ len
   length_entries = length-take-le len (pairs xs) (simp length-map in_memory)
+
+  -- the entries that a clause sees
+  pub length_seen : {C : Content K V} → content len xs ≡ C → length C.entries ≡ len
+  length_seen seen = sym (ap (λ z. length z.entries) seen) ∙ length_entries
 
   pub entry_at : (i : ℕ) (d : K × V) → i < len → get_or (take len (pairs xs)) i d ≡ get_or (pairs xs) i d
   entry_at i d lt = get_or-take len (pairs xs) i d lt

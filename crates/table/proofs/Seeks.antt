@@ -1,5 +1,5 @@
 -- A search for a key down the chain of its bucket.
-use Rattle.std.proofs.Common.{◌≡◌, ℕ, ◌<◌, ◌≤◌, true, false, List, [], ◌∷◌, map, length, get_or, take, Some, None, Ok, Err, Option, Ordering, sym, refl, ap, ◌∙◌, inl, inr, arith}
+use Rattle.std.proofs.Common.{◌≡◌, ℕ, ◌<◌, ◌≤◌, true, false, List, [], ◌∷◌, map, get_or, take, Some, None, Ok, Err, Option, Ordering, sym, refl, ap, subst, ◌∙◌, inl, inr, arith}
 use Rattle.std.proofs.lemmas.List.{length-map, get_or-map}
 use Rattle.std.proofs.lemmas.Bool.{cases_lt, cases_Bool, both_ways}
 use Rattle.std.specs.Ordering.{is_eq}
@@ -11,7 +11,7 @@ use Rattle.table.specs.declared.slot.Slot.{Slot}
 use Rattle.table.specs.Slots.{pairs, at, none}
 use Rattle.table.specs.Index.{home, mark, tags, bit_of, capacity_of, bucket_of, Indexed}
 use Rattle.table.proofs.Entries.{in_memory, length_entries, entry_at}
-use Rattle.table.specs.Content.{Apart}
+use Rattle.table.specs.Content.{Content, content, Apart}
 use Rattle.lists.specs.Positions.{position}
 use Rattle.lists.proofs.Positions.{position_at, position_none, none_passes}
 use Rattle.table.specs.declared.table.Vacancy.{Vacancy}
@@ -85,7 +85,7 @@ found_none None v w e = (refl, cc)
 found_none (Some i) v w e = let z : ◌≡◌ {A = ℕ} 0 1 = cc in let no : ⊥ = omega arith in absurd no
 
 -- a search that was answered with a vacancy: no entry has the key, and the vacancy is its hash's
-pub sought_vacant : {K V W : Type 0} (order : W → W → Ordering) (laws : Laws order) (value : K → W) (hashed : K → ℕ) (room : ℕ) (es : List (K × V)) (k : K) (w : Vacancy)
+sought_vacant : {K V W : Type 0} (order : W → W → Ordering) (laws : Laws order) (value : K → W) (hashed : K → ℕ) (room : ℕ) (es : List (K × V)) (k : K) (w : Vacancy)
     → sought order value hashed room es k ≡ Err w → Absent value es k × (w ≡ vacancy room (hashed k))
 sought_vacant order laws value hashed room es k w e =
     let f = found_none (position (λ x. alike order (value x.0) (value k)) es) (vacancy room (hashed k)) w e in (
@@ -93,6 +93,13 @@ sought_vacant order laws value hashed room es k w e =
           both_ways _ (none_passes (λ x. alike order (value x.0) (value k)) es f.0 i d lt) (same_alike order laws _ _ q),
       sym f.1,
     )
+
+-- the same of the fields, where a clause sees their content
+pub seen_vacant : {K V W : Type 0} (order : W → W → Ordering) (laws : Laws order) (value : K → W) (hashed : K → ℕ) (xs : List (Slot K V)) (len : ℕ)
+    {C : Content K V} (k : K) (w : Vacancy) → content len xs ≡ C → sought order value hashed C.room C.entries k ≡ Err w
+    → Absent value (take len (pairs xs)) k × (w ≡ vacancy (capacity_of xs) (hashed k))
+seen_vacant order laws value hashed xs len k w seen e =
+    sought_vacant order laws value hashed _ _ k w (subst (λ z. sought order value hashed z.room z.entries k ≡ Err w) (sym seen) e)
 
 -- a search that was answered with a place
 pub found_place : (o : Option ℕ) (w : Vacancy) (i : ℕ) → Ok i ≡ found o w → o ≡ Some i

@@ -7,8 +7,8 @@ ghost use Rattle.table.specs.Tables.{vacancy};
 
 use crate::chain::{link, unlink};
 use crate::slot::{
-    NONE, Slot, head_of, key_of, marks_of, next_of, place_of, set_head, set_marks, set_next, set_pair,
-    value_of,
+    NONE, Slot, head_of, key_of, marks_of, next_of, place_of, set_head, set_marks, set_next,
+    set_pair, value_of,
 };
 use crate::table::Vacancy;
 use keys::nodes::NodeTrait;

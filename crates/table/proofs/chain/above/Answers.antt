@@ -1,4 +1,4 @@
-use Rattle.std.proofs.Common.{◌<◌, ◌≤◌, sym, ap, ◌∙◌, arith}
+use Rattle.std.proofs.Common.{◌<◌, sym, ap, ◌∙◌, arith}
 use Rattle.lists.specs.Latest.{latest}
 use Rattle.table.specs.Slots.{none, place_of}
 use Rattle.table.proofs.Capacity.{within_memory, within_links, bucket_slot}
@@ -42,7 +42,7 @@ loop-at-preserved g c =
       (
         C,
         c.place_of-at-in-Some.ensures
-        ∙ (walk_next _ c.args.n _ _ _ C.chains (omega (arith, c.requires.small, within_links c.args.slots.now)) c.args.b c.requires.bucket i c.next_of.result low w.2 c.next_of.ensures.value).0,
+            ∙ (walk_next _ c.args.n _ _ _ C.chains (omega (arith, c.requires.small, within_links c.args.slots.now)) c.args.b c.requires.bucket i c.next_of.result low w.2 c.next_of.ensures.value).0,
       ),
     )
 

@@ -80,14 +80,14 @@ returns g c =
       indexed = record {
         fits = omega arith;
         chained =
-          settled hashed cap (capacity_of t) (len + 1) (pairs t) (pairs t) (two (headed t)) (at (nexts t)) (same_capacity s t (omega arith)) refl (rw (add-one len) L);
+            settled hashed cap (capacity_of t) (len + 1) (pairs t) (pairs t) (two (headed t)) (at (nexts t)) (same_capacity s t (omega arith)) refl (rw (add-one len) L);
         marks = λ i lt.
-          ap (λ z. bit_of (two (marked t) (at (homes hashed z (pairs t)) i)) (at (tags hashed (pairs t)) i)) (same_capacity s t (omega arith))
-          ∙ marks_pushed len b k (at (homes hashed cap (pairs s))) (at (tags hashed (pairs s))) (two (marked s)) h' (at (tags hashed (pairs t))) (two (marked t)) c.requires.indexed.marks
-          at_home at_tag (other_home len (pairs s) (pairs t) e pair hashed cap) (other_tag len (pairs s) (pairs t) e pair hashed)
-          (c.set_marks.ensures.marks.here
-          ∙ (ap (λ z. bit_or z (1 * 2 ^ k % 2 ^ 8)) (c.marks_of-marks.ensures ∙ old b) ∙ ap (λ z. bit_or (two (marked s) b) z) (one_shl k 8 small)))
-          (λ x ne. c.set_marks.ensures.marks.there x ne ∙ old x) i lt;
+            ap (λ z. bit_of (two (marked t) (at (homes hashed z (pairs t)) i)) (at (tags hashed (pairs t)) i)) (same_capacity s t (omega arith))
+            ∙ marks_pushed len b k (at (homes hashed cap (pairs s))) (at (tags hashed (pairs s))) (two (marked s)) h' (at (tags hashed (pairs t))) (two (marked t)) c.requires.indexed.marks
+            at_home at_tag (other_home len (pairs s) (pairs t) e pair hashed cap) (other_tag len (pairs s) (pairs t) e pair hashed)
+            (c.set_marks.ensures.marks.here
+            ∙ (ap (λ z. bit_or z (1 * 2 ^ k % 2 ^ 8)) (c.marks_of-marks.ensures ∙ old b) ∙ ap (λ z. bit_or (two (marked s) b) z) (one_shl k 8 small)))
+            (λ x ne. c.set_marks.ensures.marks.there x ne ∙ old x) i lt;
       };
       pair = pair;
     }

@@ -1,4 +1,4 @@
-use Rattle.std.proofs.Common.{◌≡◌, ◌+◌, ◌-◌, ◌≤◌, length, get_or, set, sym, ap, ◌∙◌, arith}
+use Rattle.std.proofs.Common.{◌≡◌, ◌+◌, ◌-◌, ◌≤◌, length, get_or, set, ap, ◌∙◌, arith}
 use Rattle.std.proofs.lemmas.List.{length-map, get_or-set_same, get_or-set_other}
 use Rattle.lists.proofs.Swap.{take_swap_removed}
 use Rattle.table.specs.Slots.{pairs}
@@ -35,7 +35,7 @@ tidy-requires g c =
         fits = omega (arith, c.requires.indexed.fits);
         chained = c.detach.ensures.chained;
         marks =
-          marked_same g.K.NodeTrait.hashed s u c.args.len (c.args.len - 1) c.requires.indexed.marks (omega arith) c.detach.ensures.entries.pair c.detach.ensures.entries.marks (omega arith);
+            marked_same g.K.NodeTrait.hashed s u c.args.len (c.args.len - 1) c.requires.indexed.marks (omega arith) c.detach.ensures.entries.pair c.detach.ensures.entries.marks (omega arith);
       };
     }
 
@@ -79,9 +79,9 @@ tidy-requires-2 g c =
         fits = omega (arith, c.requires.indexed.fits);
         chained = c.relocate.ensures.chained;
         marks =
-          marked_moved g.K.NodeTrait.hashed s r (c.args.len - 1) c.args.g M (omega (arith, c.requires.place)) (omega (arith, c.requires.place, c.requires.indexed.fits, within_memory s))
-          (λ d. c.relocate.ensures.pair d ∙ ap (λ z. set z c.args.g (get_or z (c.args.len - 1) d)) c.detach.ensures.entries.pair)
-          (c.relocate.ensures.marks ∙ c.detach.ensures.entries.marks) (omega arith);
+            marked_moved g.K.NodeTrait.hashed s r (c.args.len - 1) c.args.g M (omega (arith, c.requires.place)) (omega (arith, c.requires.place, c.requires.indexed.fits, within_memory s))
+            (λ d. c.relocate.ensures.pair d ∙ ap (λ z. set z c.args.g (get_or z (c.args.len - 1) d)) c.detach.ensures.entries.pair)
+            (c.relocate.ensures.marks ∙ c.detach.ensures.entries.marks) (omega arith);
       };
     }
 

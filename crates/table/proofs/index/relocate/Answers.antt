@@ -43,10 +43,10 @@ link-requires g c =
       bucket = record {
         below = omega (arith, c.requires.bucket.below);
         home =
-          written_home c.args.g (pairs u) (pairs t) e c.set_pair.ensures.pair hashed (capacity_of t) (simp length-map (omega (arith, c.requires.fits, c.requires.place, within_memory s)))
-          ∙ (ap (λ z. home z (hashed c.key_of-k.result)) same
-          ∙ (sym (home_at hashed (capacity_of s) (pairs u) c.args.last c.key_of-k.result (simp length-map (omega (arith, c.requires.fits, within_memory s))) c.key_of-k.ensures)
-          ∙ (ap (λ z. at (homes hashed (capacity_of s) z) c.args.last) c.unlink.ensures.entries.pair ∙ c.requires.bucket.home)));
+            written_home c.args.g (pairs u) (pairs t) e c.set_pair.ensures.pair hashed (capacity_of t) (simp length-map (omega (arith, c.requires.fits, c.requires.place, within_memory s)))
+            ∙ (ap (λ z. home z (hashed c.key_of-k.result)) same
+            ∙ (sym (home_at hashed (capacity_of s) (pairs u) c.args.last c.key_of-k.result (simp length-map (omega (arith, c.requires.fits, within_memory s))) c.key_of-k.ensures)
+            ∙ (ap (λ z. at (homes hashed (capacity_of s) z) c.args.last) c.unlink.ensures.entries.pair ∙ c.requires.bucket.home)));
       };
     }
 

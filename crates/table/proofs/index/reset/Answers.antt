@@ -1,4 +1,4 @@
-use Rattle.std.proofs.Common.{ℕ, List, ◌/◌, ◌<◌, length, drop, take, set, sym, ap, ◌∙◌, inl, inr, arith}
+use Rattle.std.proofs.Common.{ℕ, List, ◌/◌, ◌<◌, length, drop, set, ap, ◌∙◌, inl, inr, arith}
 use Rattle.std.proofs.lemmas.List.{map-set, map-append, length-map, length-take-le, length-append, length-drop}
 use Rattle.std.proofs.lemmas.Bool.{cases_eq}
 use Rattle.table.specs.Slots.{headed, none, two}

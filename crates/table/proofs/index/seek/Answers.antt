@@ -1,8 +1,7 @@
-use Rattle.std.proofs.Common.{◌<◌, ◌≤◌, length, refl, ap, arith}
+use Rattle.std.proofs.Common.{◌<◌, refl, ap, arith}
 use Rattle.table.specs.declared.table.Vacancy.{Vacancy}
 use Rattle.table.specs.Slots.{marked, two}
-use Rattle.table.specs.Index.{capacity_of}
-use Rattle.table.proofs.Capacity.{within_memory, bucket_slot}
+use Rattle.table.proofs.Capacity.{bucket_slot}
 use Rattle.table.proofs.Entries.{length_entries}
 use Rattle.table.proofs.Seeks.{home_of_same, tag_of_same, unmarked}
 use Rattle.table.proofs.index.seek.Goals as goal

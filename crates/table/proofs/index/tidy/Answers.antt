@@ -35,13 +35,13 @@ returns-then-head_of-eq-NONE g c =
       indexed = record {
         fits = omega (arith, c.requires.indexed.fits, same_capacity s t (omega arith));
         chained =
-          settled hashed (capacity_of s) (capacity_of t) n (pairs s) (pairs t) (two (headed t)) (at (nexts t)) (same_capacity s t (omega arith)) c.set_marks.ensures.pair
-          (relinked (2 * capacity_of s) n h (two (headed t)) (nexts s) (nexts t) c.set_marks.ensures.next
-          (reheaded (2 * capacity_of s) n h (at (nexts s)) (headed s) (headed t) c.set_marks.ensures.heads c.requires.indexed.chained));
+            settled hashed (capacity_of s) (capacity_of t) n (pairs s) (pairs t) (two (headed t)) (at (nexts t)) (same_capacity s t (omega arith)) c.set_marks.ensures.pair
+            (relinked (2 * capacity_of s) n h (two (headed t)) (nexts s) (nexts t) c.set_marks.ensures.next
+            (reheaded (2 * capacity_of s) n h (at (nexts s)) (headed s) (headed t) c.set_marks.ensures.heads c.requires.indexed.chained));
         marks = λ i lt.
-          ap (λ z. bit_of (two (marked t) z) (at (tags hashed (pairs t)) i)) (same_bucket hashed s t c.set_marks.ensures.pair (omega arith) i)
-          ∙ (ap (λ z. bit_of (two (marked t) (h i)) (at (tags hashed z) i)) c.set_marks.ensures.pair
-          ∙ marks_tidied n c.args.b h (at (tags hashed (pairs s))) (two (marked s)) (two (marked t)) c.requires.indexed.marks out c.set_marks.ensures.marks.there i lt);
+            ap (λ z. bit_of (two (marked t) z) (at (tags hashed (pairs t)) i)) (same_bucket hashed s t c.set_marks.ensures.pair (omega arith) i)
+            ∙ (ap (λ z. bit_of (two (marked t) (h i)) (at (tags hashed z) i)) c.set_marks.ensures.pair
+            ∙ marks_tidied n c.args.b h (at (tags hashed (pairs s))) (two (marked s)) (two (marked t)) c.requires.indexed.marks out c.set_marks.ensures.marks.there i lt);
       };
       pair = c.set_marks.ensures.pair;
     }

@@ -1,4 +1,4 @@
-use Rattle.std.proofs.Common.{◌≡◌, ◌<◌, get_or, take, None, sym, ap, ◌∙◌, arith}
+use Rattle.std.proofs.Common.{◌≡◌, ◌<◌, get_or, take, sym, ap, ◌∙◌, arith}
 use Rattle.std.proofs.lemmas.Bool.{both_ways}
 use Rattle.keys.specs.Laws.{equal_alike}
 use Rattle.lists.specs.Latest.{latest}
@@ -67,7 +67,7 @@ loop-at-preserved g c =
       i,
       omega arith,
       c.place_of-at-in-Some.ensures
-      ∙ (walk_next _ c.args.len _ _ _ c.requires.indexed.chained (below_none c.requires.indexed) c.args.b c.requires.bucket i c.next_of.result low w.2 c.next_of.ensures.value).0,
+          ∙ (walk_next _ c.args.len _ _ _ c.requires.indexed.chained (below_none c.requires.indexed) c.args.b c.requires.bucket i c.next_of.result low w.2 c.next_of.ensures.value).0,
       λ j d ge lt e.
           let past =
           unseen_past g.K.NodeTrait.value c.requires.indexed c.args.k.now c.args.b c.requires.hashed

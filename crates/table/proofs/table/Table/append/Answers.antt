@@ -1,25 +1,21 @@
-use Rattle.std.proofs.Common.{◌≡◌, ◌+◌, ◌<◌, ltb, Err, [], ◌∷◌, ◌++◌, length, take, Some, sym, refl, ap, subst, ◌∙◌, arith}
-use Rattle.std.proofs.lemmas.List.{length-map, take_more_set}
+use Rattle.std.proofs.Common.{◌<◌, ltb, [], ◌∷◌, ◌++◌, length, take, Some, sym, refl, ap, ◌∙◌, arith}
 use Rattle.std.proofs.lemmas.Bool.{cond-true, cond-false, lt-ltb, le-ltb}
 use Rattle.table.specs.declared.table.Vacancy.{Vacancy}
 use Rattle.table.specs.Slots.{pairs}
 use Rattle.table.specs.Index.{capacity_of}
-use Rattle.table.specs.Tables.{sought}
 use Rattle.table.proofs.Apart.{apart_push}
-use Rattle.table.proofs.Capacity.{within_memory}
-use Rattle.table.proofs.Entries.{length_entries, take_set_end}
+use Rattle.table.proofs.Entries.{length_entries, length_seen, take_set_end}
 use Rattle.table.proofs.Homes.{home_below}
-use Rattle.table.proofs.Seeks.{sought_vacant}
+use Rattle.table.proofs.Seeks.{seen_vacant}
 use Rattle.table.proofs.Writes.{same_capacity}
 use Rattle.table.proofs.table.Table.append.Goals as goal
 
 pub returns-then-len-capacity : goal.returns-then-len-capacity
 returns-then-len-capacity g c =
     let t = c.args.self.now in
-    let n = ap (λ z. length z.entries) c.self.view_is in
     record {
       done =
-          sym (cond-false (ltb (length t.entries) t.room) _ _ (le-ltb _ _ (omega (arith, n, length_entries c.self.invariant.index, c.capacity.ensures))));
+          sym (cond-false (ltb (length t.entries) t.room) _ _ (le-ltb _ _ (omega (arith, length_seen c.self.invariant.index c.self.view_is, c.capacity.ensures))));
       room = refl;
     }
 
@@ -28,8 +24,7 @@ enter-requires g c =
     let s = c.self.inside.slots.now in
     let room : c.self.inside.len < capacity_of s = omega (arith, c.capacity.ensures, ap (λ z. z.room) c.self.view_is) in
     let v =
-    sought_vacant g.K.NodeTrait.order g.met.K.NodeTrait.ordered g.K.NodeTrait.value g.K.NodeTrait.hashed (capacity_of s) (take c.self.inside.len (pairs s)) c.args.k c.args.w
-    (subst (λ z. sought g.K.NodeTrait.order g.K.NodeTrait.value g.K.NodeTrait.hashed z.room z.entries c.args.k ≡ Err c.args.w) (sym c.self.view_is) c.requires.absent) in
+    seen_vacant g.K.NodeTrait.order g.met.K.NodeTrait.ordered g.K.NodeTrait.value g.K.NodeTrait.hashed _ _ c.args.k c.args.w c.self.view_is c.requires.absent in
     record {
       room = room;
       indexed = c.self.invariant.index;
@@ -43,8 +38,7 @@ invariant_of-self g c =
     let s = c.self.inside.slots.now in
     let len = c.self.inside.len in
     let v =
-    sought_vacant g.K.NodeTrait.order g.met.K.NodeTrait.ordered g.K.NodeTrait.value g.K.NodeTrait.hashed (capacity_of s) (take len (pairs s)) c.args.k c.args.w
-    (subst (λ z. sought g.K.NodeTrait.order g.K.NodeTrait.value g.K.NodeTrait.hashed z.room z.entries c.args.k ≡ Err c.args.w) (sym c.self.view_is) c.requires.absent) in
+    seen_vacant g.K.NodeTrait.order g.met.K.NodeTrait.ordered g.K.NodeTrait.value g.K.NodeTrait.hashed _ _ c.args.k c.args.w c.self.view_is c.requires.absent in
     let room : len < capacity_of s = omega (arith, c.capacity.ensures, ap (λ z. z.room) c.self.view_is) in
     record {
       index = c.enter.ensures.indexed;

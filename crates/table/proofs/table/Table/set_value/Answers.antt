@@ -1,10 +1,10 @@
-use Rattle.std.proofs.Common.{◌≡◌, ◌<◌, length, get_or, take, set, Some, sym, refl, ap, ◌∙◌, arith}
+use Rattle.std.proofs.Common.{◌≡◌, get_or, take, Some, sym, refl, ap, ◌∙◌, arith}
 use lib.Seq.{take-set-lt}
 use Rattle.std.proofs.lemmas.Option.{slice_get-get_or, slice_get_past}
 use Rattle.table.specs.Slots.{pairs}
 use Rattle.table.specs.Tables.{replaced_at}
 use Rattle.table.proofs.Apart.{apart_set}
-use Rattle.table.proofs.Entries.{in_memory, length_entries, entry_at}
+use Rattle.table.proofs.Entries.{in_memory, length_entries, length_seen, entry_at}
 use Rattle.table.proofs.Lists.{pair_is}
 use Rattle.table.proofs.Moves.{indexed_set}
 use Rattle.table.proofs.Writes.{same_capacity}
@@ -20,11 +20,11 @@ returns-then-i-self g c =
 
 pub key_at-k-requires : goal.key_at-k-requires
 key_at-k-requires g c =
-    omega (arith, ap (λ z. length z.entries) c.self.view_is, length_entries c.self.invariant.index)
+    omega (arith, length_seen c.self.invariant.index c.self.view_is)
 
 pub value_at-old-requires : goal.value_at-old-requires
 value_at-old-requires g c =
-    omega (arith, ap (λ z. length z.entries) c.self.view_is, length_entries c.self.invariant.index)
+    omega (arith, length_seen c.self.invariant.index c.self.view_is)
 
 pub set_pair-requires : goal.set_pair-requires
 set_pair-requires g c = omega (arith, in_memory c.self.invariant.index)

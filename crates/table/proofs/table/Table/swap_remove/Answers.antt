@@ -1,10 +1,10 @@
-use Rattle.std.proofs.Common.{◌≡◌, ◌-◌, ◌<◌, length, get_or, take, Some, sym, refl, ap, ◌∙◌, arith}
+use Rattle.std.proofs.Common.{◌≡◌, ◌-◌, get_or, take, Some, sym, refl, ap, ◌∙◌, arith}
 use Rattle.std.proofs.lemmas.Option.{slice_get-get_or, slice_get_past}
 use Rattle.lists.specs.Swap.{swap_removed}
 use Rattle.table.specs.Slots.{pairs}
 use Rattle.table.specs.Tables.{taken_at}
 use Rattle.table.proofs.Apart.{apart_swap_removed}
-use Rattle.table.proofs.Entries.{length_entries}
+use Rattle.table.proofs.Entries.{length_entries, length_seen}
 use Rattle.table.proofs.Lists.{pair_is}
 use Rattle.table.proofs.Writes.{same_capacity}
 use Rattle.table.proofs.table.Table.swap_remove.Goals as goal
@@ -19,11 +19,11 @@ returns-then-i-len g c =
 
 pub key_at-requires : goal.key_at-requires
 key_at-requires g c =
-    omega (arith, ap (λ z. length z.entries) c.self.view_is, length_entries c.self.invariant.index)
+    omega (arith, length_seen c.self.invariant.index c.self.view_is)
 
 pub value_at-requires : goal.value_at-requires
 value_at-requires g c =
-    omega (arith, ap (λ z. length z.entries) c.self.view_is, length_entries c.self.invariant.index)
+    omega (arith, length_seen c.self.invariant.index c.self.view_is)
 
 pub invariant_of-self : goal.invariant_of-self
 invariant_of-self g c = record {
