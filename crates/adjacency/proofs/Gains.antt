@@ -44,7 +44,8 @@ module _ {N V : Type 0} (K : Keys N V) (d : N) (ks : List N) (ns : List (N × Li
   pub gained_rest : (c : ℕ) (zs : List ℕ) → row_at ns i d ≡ c ∷ zs → (x : ℕ) → Gained K d ks ns i zs x
   gained_rest c zs e x = inl (let m = ap (count x) e in omega arith)
 
-  -- how often each cell stands then
+-- how often each cell stands then
+module _ {N : Type 0} (d : N) (ns : List (N × List ℕ)) (i : ℕ) (li : i < length ns) where
   pub pushed_standing : (c : ℕ) (x : ℕ) → standing x (put_row ns i d (row_at ns i d ++ c ∷ [])) ≡ standing x ns + bit (eqb x c)
   pushed_standing c x =
       let t = standing_put d ns i li (row_at ns i d ++ c ∷ []) x in
