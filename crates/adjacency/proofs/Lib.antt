@@ -5,3 +5,6 @@ pub mod Gains
 pub mod Seating
 pub mod Writes
 pub mod Joining
+pub mod Owners
+pub mod Settled
+pub mod Ranges
