@@ -29,7 +29,7 @@ set_but xs ys i v n h =
 
 -- the row at i is edited: what is written is apart from every other row
 module _ {N : Type 0} (mem mem' : List (Cell N)) (es : List (N × RowHead)) (i : ℕ) (k : N) (h' : RowHead) (ys : List ℕ)
-    (small : length mem ≤ none) (same : length mem ≡ length mem') (R : Rings mem es) (li : i < length es)
+    (small : length mem ≤ none) (R : Rings mem es) (li : i < length es)
     (kept : Kept mem mem' ys) (linked : Linked mem' h')
     (off : (j : ℕ) (e : N × RowHead) → j < length es → (j ≡ i → ⊥) → (c : ℕ) → 1 ≤ count c (listed mem (get_or es j e).1) → Apart c ys) where
   apart_row : (j : ℕ) (e : N × RowHead) → j < length es → (j ≡ i → ⊥) → (x : ℕ) → x < length (listed mem (get_or es j e).1) → Apart (nth (listed mem (get_or es j e).1) x) ys
@@ -41,7 +41,7 @@ module _ {N : Type 0} (mem mem' : List (Cell N)) (es : List (N × RowHead)) (i :
       (λ q. subst (λ z. Linked mem' (get_or (set es i (k, h')) z e).1) (sym q) (subst (λ x. Linked mem' x.1) (sym (get_or-set_same es i (k, h') e li)) linked))
       (λ ne.
       let lj : j < length es = omega (arith, length-set es i (k, h')) in
-      subst (λ x. Linked mem' x.1) (sym (get_or-set_other es i j (k, h') e ne)) (other_linked mem mem' (get_or es j e).1 ys (R j e lj) same small kept (apart_row j e lj ne)))
+      subst (λ x. Linked mem' x.1) (sym (get_or-set_other es i j (k, h') e ne)) (other_linked mem mem' (get_or es j e).1 ys (R j e lj) small kept (apart_row j e lj ne)))
       (cases_eq j i)
 
   pub edited_rows : rowed mem' (set es i (k, h')) ≡ set (rowed mem es) i (k, listed mem' h')
@@ -52,7 +52,7 @@ module _ {N : Type 0} (mem mem' : List (Cell N)) (es : List (N × RowHead)) (i :
       let e : N × RowHead = (d.0, bare) in
       let m : j < length es = omega (arith, rowed_length mem' es) in
       get_or-map (λ x. (x.0, listed mem' x.1)) es j e d m
-      ∙ ap (λ xs. ((get_or es j e).0, xs)) (other_listed mem mem' (get_or es j e).1 ys (R j e m) same small kept (apart_row j e m ne))
+      ∙ ap (λ xs. ((get_or es j e).0, xs)) (other_listed mem mem' (get_or es j e).1 ys (R j e m) small kept (apart_row j e m ne))
       ∙ sym (get_or-map (λ x. (x.0, listed mem x.1)) es j e d m))
 
 -- where each cell stands once at most, one that stands in another row does not stand in this one

@@ -1,13 +1,10 @@
 pub mod Entries
 pub mod Frames
-pub mod Puts
+pub mod RowEdits
+pub mod Gains
 pub mod Seating
 pub mod Writes
+pub mod Joining
 pub mod Owners
-pub mod Sought
 pub mod Settled
-pub mod Keying
-pub mod Wants
 pub mod Ranges
-pub mod Looking
-pub mod Removals

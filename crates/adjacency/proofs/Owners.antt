@@ -1,21 +1,21 @@
 -- A cell that stands is in the row of the node that its twin names.
-use Rattle.std.proofs.Common.{◌≡◌, ℕ, ◌<◌, ◌≤◌, List, length, get_or, Some, None, sym, ap, ◌∙◌, subst, ⊎_elim, arith}
+use Rattle.std.proofs.Common.{◌≡◌, ℕ, ◌<◌, ◌≤◌, List, length, get_or, Some, None, Ordering, sym, ap, ◌∙◌, subst, ⊎_elim, arith}
+use Rattle.std.proofs.lemmas.List.{get_or_default}
+use Rattle.std.proofs.lemmas.Bool.{cases_lt, both_ways}
 use Rattle.keys.specs.Order.{Laws}
 use Rattle.lists.specs.Positions.{position}
 use Rattle.lists.proofs.Positions.{none_passes}
-use Rattle.table.specs.Tables.{Apart}
-use Rattle.model.specs.Keys.{Keys, eq}
+use Rattle.table.specs.Content.{Apart}
+use Rattle.model.specs.Keys.{Keys, keys, eq}
 use Rattle.model.proofs.Tests.{same_eq, other_eq}
 use Rattle.model.proofs.Positions.{position_sole}
-use Rattle.rows.specs.declared.cells.Cell.{Cell}
 use Rattle.rows.specs.declared.cells.RowHead.{RowHead}
 use Rattle.rows.specs.HalfEdges.{twin}
 use Rattle.rows.specs.Links.{bare}
-use Rattle.halfedges.specs.Cells.{count, standing, row_at, named, Owned}
+use Rattle.halfedges.specs.Cells.{count, standing, row_at, named}
 use Rattle.halfedges.proofs.Rows.{held_in}
-use Rattle.adjacency.specs.Stages.{rowed}
+use Rattle.adjacency.specs.Stages.{NodeRows, Stage, rows_of, keys_of}
 use Rattle.adjacency.proofs.Entries.{rowed_length, row_read}
-use Rattle.std.proofs.lemmas.Bool.{cases_lt, both_ways}
 
 -- the place of a key, by its value
 pub key_place : {N V : Type 0} (K : Keys N V) (laws : Laws K.order) (es : List (N × RowHead)) (v : V) (i : ℕ) → Apart K.value es → i < length es
@@ -28,25 +28,25 @@ key_place {N} K laws es v i apart l h =
     (λ s. ⊎_elim (λ r. apart i j e r lj (h e ∙ sym q)) (λ r. ne (omega arith)) (cases_lt i j))
     (cases_lt j i)))
 
-module _ {N V : Type 0} (K : Keys N V) (laws : Laws K.order) (d : N) (ks : List N) (mem : List (Cell N)) (es : List (N × RowHead)) (v : V) (x : ℕ)
-    (apart : Apart K.value es) (O : Owned K d ks (rowed mem es)) (h : 1 ≤ standing x (rowed mem es)) (own : named K d ks (twin x) ≡ v) where
-  its_row : (j : ℕ) × (j < length es) × (1 ≤ count x (row_at (rowed mem es) j d)) × (K.value (get_or es j (d, bare)).0 ≡ v)
+module _ {N V : Type 0} {value : N → V} {order : V → V → Ordering} {r : NodeRows N} (s : Stage value order r) (laws : Laws order) (d : N) (v : V) (x : ℕ)
+    (h : 1 ≤ standing x (rows_of r)) (own : named (keys value order) d (keys_of r) (twin x) ≡ v) where
+  its_row : (j : ℕ) × (j < length r.nodes.entries) × (1 ≤ count x (row_at (rows_of r) j d)) × (value (get_or r.nodes.entries j (d, bare)).0 ≡ v)
   its_row =
-      let s = held_in K d ks (rowed mem es) x O h in
-      let l : s.0 < length es = omega (arith, s.1, rowed_length mem es) in
-      (s.0, l, s.2, sym (ap (λ y. K.value y.0) (row_read mem es s.0 (d, bare) l)) ∙ sym s.3 ∙ own)
+      let t = held_in (keys value order) d (keys_of r) (rows_of r) x (s.owned d) h in
+      let l : t.0 < length r.nodes.entries = omega (arith, t.1, rowed_length r.cells r.nodes.entries) in
+      (t.0, l, t.2, sym (ap (λ y. value y.0) (row_read r.cells r.nodes.entries t.0 (d, bare) l)) ∙ sym t.3 ∙ own)
 
   -- so the node is there
-  pub never_absent : position (λ e. eq K (K.value e.0) v) es ≡ None → ⊥
+  pub never_absent : position (λ e. eq (keys value order) (value e.0) v) r.nodes.entries ≡ None → ⊥
   never_absent e =
-      let r = its_row in
-      both_ways _ (none_passes (λ y. eq K (K.value y.0) v) es e r.0 (d, bare) r.1) (same_eq K laws _ _ r.3)
+      let t = its_row in
+      both_ways _ (none_passes (λ y. eq (keys value order) (value y.0) v) r.nodes.entries e t.0 (d, bare) t.1) (same_eq (keys value order) laws _ _ t.3)
 
   -- and its row has the cell
-  pub in_its_row : (i : ℕ) → position (λ e. eq K (K.value e.0) v) es ≡ Some i → 1 ≤ count x (row_at (rowed mem es) i d)
+  pub in_its_row : (i : ℕ) → position (λ e. eq (keys value order) (value e.0) v) r.nodes.entries ≡ Some i → 1 ≤ count x (row_at (rows_of r) i d)
   in_its_row i e =
-      let r = its_row in
-      let p = key_place K laws es v r.0 apart r.1 (λ y. ap (λ z. K.value z.0) (Rattle.std.proofs.lemmas.List.get_or_default es r.0 y (d, bare) r.1) ∙ r.3) in
-      let s : Some i ≡ Some r.0 = sym e ∙ p in
-      let q : r.0 ≡ i = cc in
-      subst (λ j. 1 ≤ count x (row_at (rowed mem es) j d)) q r.2
+      let t = its_row in
+      let p = key_place (keys value order) laws r.nodes.entries v t.0 s.apart t.1 (λ y. ap (λ z. value z.0) (get_or_default r.nodes.entries t.0 y (d, bare) t.1) ∙ t.3) in
+      let q : Some i ≡ Some t.0 = sym e ∙ p in
+      let same : t.0 ≡ i = cc in
+      subst (λ j. 1 ≤ count x (row_at (rows_of r) j d)) same t.2

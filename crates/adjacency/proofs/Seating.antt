@@ -1,14 +1,13 @@
 -- A node is sought in the table and, where it is absent, put at its end.
-use Rattle.std.proofs.Common.{◌≡◌, ℕ, ◌+◌, Bool, not, List, [], ◌∷◌, ◌++◌, length, Some, None, Ok, Err, Option, Ordering, sym, refl, ap, ◌∙◌, subst, ⊎_elim, arith}
+use Rattle.std.proofs.Common.{◌≤◌, ◌≡◌, ℕ, ◌+◌, Bool, not, List, [], ◌∷◌, ◌++◌, length, Some, None, Ok, Err, Option, Ordering, sym, refl, ap, ◌∙◌, subst, ⊎_elim, arith}
 use Rattle.std.proofs.lemmas.List.{get_or_append_left, get_or_push, length_push, map-append}
 use Rattle.std.proofs.lemmas.Bool.{cases_lt, cond-true, cond-false}
 use Rattle.keys.specs.Order.{Laws}
 use Rattle.lists.specs.Positions.{position}
 use Rattle.lists.proofs.Positions.{position_at, none_passes}
 use Rattle.table.specs.declared.table.Vacancy.{Vacancy}
-use Rattle.table.specs.declared.table.Table.{Table}
-use Rattle.table.specs.Tables.{found, entries}
-use Rattle.table.specs.Tables.{Sound as SoundTable}
+use Rattle.table.specs.Content.{Content, Apart}
+use Rattle.table.specs.Tables.{found}
 use Rattle.model.specs.Keys.{Keys, keys, eq}
 use Rattle.model.specs.Lists.{bit, some}
 use Rattle.model.specs.Lists.{found as found_first}
@@ -21,7 +20,7 @@ use Rattle.rows.specs.Links.{bare, cell_keys, Linked}
 use Rattle.rows.proofs.Lists.{bare_linked}
 use Rattle.halfedges.specs.Cells.{standing, noded, Owned}
 use Rattle.halfedges.proofs.Rows.{standing_more, owned_more, noded_more}
-use Rattle.adjacency.specs.Stages.{rowed, Rings, Stage}
+use Rattle.adjacency.specs.Stages.{NodeRows, rowed, rows_of, keys_of, Rings, Stage}
 use Rattle.adjacency.specs.Seats.{vacant, seat_by, seated_in}
 
 -- what a table's search tells
@@ -131,15 +130,28 @@ module _ {N V : Type 0} (K : Keys N V) (n : N) (es : List (N × RowHead)) where
       by None = position_push (λ e. eq K (K.value e.0) v) es (n, bare) (other_eq K laws (K.value n) v ne)
       by (Some i) = refl
 
--- the table that a node was put into, with the memory of the rows
-pub seated_stage : {N V : Type 0} (value : N → V) (order : V → V → Ordering) (hashed : N → ℕ) (n : N) (t t' : Table N RowHead) (mem : List (Cell N))
-    → entries t' ≡ seated_in (keys value order) n (entries t) → SoundTable value hashed t' → Stage value order hashed t mem → Stage value order hashed t' mem
-seated_stage value order hashed n t t' mem e sound s =
+-- the nodes r with one more where it was absent: r'
+module _ {N V : Type 0} (K : Keys N V) (n : N) (r r' : NodeRows N) (cells : r'.cells ≡ r.cells) (seat : r'.nodes.entries ≡ seated_in K n r.nodes.entries) where
+  rows_then : rows_of r' ≡ rowed r.cells (seated_in K n r.nodes.entries)
+  rows_then i = rowed (cells i) (seat i)
+
+  pub noded_then : (ks : List N) → noded ks (rows_of r') ≡ seated K n (noded ks (rows_of r))
+  noded_then ks = ap (noded ks) rows_then ∙ seated_noded K n r.cells r.nodes.entries ks
+
+  pub standing_then : (x : ℕ) → standing x (rows_of r') ≡ standing x (rows_of r)
+  standing_then x = ap (standing x) rows_then ∙ seated_standing K n r.cells r.nodes.entries x
+
+-- they fit their rows
+pub seated_stage : {N V : Type 0} {value : N → V} {order : V → V → Ordering} (n : N) {r : NodeRows N} (nodes' : Content N RowHead) → Stage value order r
+    → nodes'.entries ≡ seated_in (keys value order) n r.nodes.entries → Apart value nodes'.entries → length nodes'.entries ≤ nodes'.room
+    → Stage value order (record { nodes = nodes'; cells = r.cells })
+seated_stage {value = value} {order = order} n {r} nodes' s e apart fits =
     let K = keys value order in
     record {
-      nodes = sound;
+      apart = apart;
+      fits = fits;
       small = s.small;
-      rings = subst (Rings mem) (sym e) (seated_rings K n mem (entries t) s.rings);
-      alone = λ x. let q = ap (λ es. standing x (rowed mem es)) e in let z = seated_standing K n mem (entries t) x in omega (arith, s.alone x);
-      owned = λ d. subst (λ es. Owned K d (cell_keys mem) (rowed mem es)) (sym e) (seated_owned K n mem (entries t) d (cell_keys mem) (s.owned d));
+      rings = subst (Rings r.cells) (sym e) (seated_rings K n r.cells r.nodes.entries s.rings);
+      alone = λ x. let q = ap (λ es. standing x (rowed r.cells es)) e in let z = seated_standing K n r.cells r.nodes.entries x in omega (arith, s.alone x);
+      owned = λ d. subst (λ es. Owned K d (keys_of r) (rowed r.cells es)) (sym e) (seated_owned K n r.cells r.nodes.entries d (keys_of r) (s.owned d));
     }

@@ -1,83 +1,64 @@
 -- The keys of a link's cells are written while the cells stand nowhere: every row stays as it is, and is told alike.
-use Rattle.std.proofs.Common.{◌≡◌, ℕ, ◌/◌, ◌<◌, ◌≤◌, cond, eqb, List, map, length, get_or, Ordering, sym, ap, ◌∙◌, subst, arith}
+use Rattle.std.proofs.Common.{◌≡◌, ℕ, ◌/◌, ◌<◌, ◌≤◌, List, map, length, get_or, Ordering, sym, ap, ◌∙◌, subst, arith}
 use Rattle.std.proofs.lemmas.List.{length-map}
-use Rattle.table.specs.declared.table.Table.{Table}
-use Rattle.table.specs.Tables.{entries}
 use Rattle.model.specs.Keys.{Keys, keys}
+use Rattle.model.proofs.Tallies.{tally_some}
 use Rattle.rows.specs.declared.cells.Cell.{Cell}
 use Rattle.rows.specs.declared.cells.RowHead.{RowHead}
-use Rattle.rows.specs.Rings.{none, nth, before}
 use Rattle.rows.specs.HalfEdges.{twin}
-use Rattle.rows.specs.Links.{cell_keys, nexts, prevs, walk, listed, Row}
-use Rattle.rows.proofs.Rings.{resized}
-use Rattle.halfedges.specs.Cells.{standing, noded, wrote, Owned}
+use Rattle.rows.specs.Links.{cell_keys, nexts, prevs, walk, listed}
+use Rattle.rows.proofs.Lists.{same_long}
+use Rattle.rows.proofs.Frames.{rekeyed_linked}
+use Rattle.halfedges.specs.Cells.{count, standing, noded, wrote, Owned}
+use Rattle.halfedges.proofs.Counts.{count_holds}
 use Rattle.halfedges.proofs.Rows.{stands_in_row}
 use Rattle.halfedges.proofs.Stands.{key_other, length_wrote}
 use Rattle.halfedges.proofs.Told.{noded_agree}
-use Rattle.adjacency.specs.Stages.{rowed, Rings, Stage}
-use Rattle.adjacency.proofs.Puts.{owned_as}
+use Rattle.adjacency.specs.Stages.{NodeRows, Stage, rowed, rows_of, keys_of}
+use Rattle.adjacency.proofs.Entries.{some_of, row_read, rowed_length}
 
--- links that are as they were make the same rows
-module _ {N : Type 0} (mem mem' : List (Cell N)) (same : length mem ≡ length mem') (en : nexts mem' ≡ nexts mem) (ep : prevs mem' ≡ prevs mem) where
-  kept_row : (h : RowHead) (xs : List ℕ) → Row mem h xs → Row mem' h xs
-  kept_row h xs row = record {
-    long = row.long;
-    ring = resized same (record {
-      within = row.ring.within;
-      gaps = λ k l.
-          let g = row.ring.gaps k l in
-          record {
-            onward = ap (λ ns. cond (eqb (before xs k) none) h.first (get_or ns (before xs k) 0)) en ∙ g.onward;
-            back = ap (λ ps. cond (eqb (nth xs k) none) h.last (get_or ps (nth xs k) 0)) ep ∙ g.back;
-          };
-    });
-  }
+-- a cell that stands is in the memory
+pub stands_within : {N V : Type 0} {value : N → V} {order : V → V → Ordering} {r : NodeRows N} → Stage value order r → (x : ℕ) → 1 ≤ standing x (rows_of r) → x < length r.cells
+stands_within {r = r} s x h =
+    let t = tally_some (λ n. count x n.1) (rows_of r) h in
+    let l : t.0 < length r.nodes.entries = omega (arith, t.1, rowed_length r.cells r.nodes.entries) in
+    let e = some_of r.nodes.entries t.0 l in
+    let o = count_holds x _ (subst (λ n. 1 ≤ count x n.1) (row_read r.cells r.nodes.entries t.0 e l) (t.2 (e.0, _))) in
+    omega (arith, o.2, (s.rings t.0 e l).ring.within o.0 o.1)
 
-  kept_list : (h : RowHead) → listed mem' h ≡ listed mem h
-  kept_list h = ap (λ ns. walk (λ x. get_or ns x 0) h.first h.len) en
+module _ {N V : Type 0} {value : N → V} {order : V → V → Ordering} {r : NodeRows N} (s : Stage value order r) (mem' : List (Cell N)) (p : ℕ) (a b : N)
+    (en : nexts mem' ≡ nexts r.cells) (ep : prevs mem' ≡ prevs r.cells) (ek : cell_keys mem' ≡ wrote (keys_of r) p a b)
+    (off : (x : ℕ) → x / 2 ≡ p → standing x (rows_of r) ≡ 0) where
+  abbrev then : NodeRows N
+  then = record { nodes = r.nodes; cells = mem' }
 
-  pub kept_rings : (es : List (N × RowHead)) → Rings mem es → Rings mem' es
-  kept_rings es R i e l = subst (Row mem' (get_or es i e).1) (sym (kept_list (get_or es i e).1)) (kept_row (get_or es i e).1 (listed mem (get_or es i e).1) (R i e l))
-
-  pub kept_rows : (es : List (N × RowHead)) → rowed mem' es ≡ rowed mem es
-  kept_rows es = ap (λ ns. map (λ e. (e.0, walk (λ x. get_or ns x 0) e.1.first e.1.len)) es) en
-
-module _ {N V : Type 0} (value : N → V) (order : V → V → Ordering) (hashed : N → ℕ) (t : Table N RowHead) (mem mem' : List (Cell N)) (p : ℕ) (a b : N)
-    (same : length mem ≡ length mem') (en : nexts mem' ≡ nexts mem) (ep : prevs mem' ≡ prevs mem) (ek : cell_keys mem' ≡ wrote (cell_keys mem) p a b)
-    (off : (x : ℕ) → x / 2 ≡ p → standing x (rowed mem (entries t)) ≡ 0)
-    (below : (x : ℕ) → 1 ≤ standing x (rowed mem (entries t)) → x < length mem) where
-  abbrev K : Keys N V
-  K = keys value order
-
-  not_here : (x : ℕ) → 1 ≤ standing x (rowed mem (entries t)) → x / 2 ≡ p → ⊥
+  not_here : (x : ℕ) → 1 ≤ standing x (rows_of r) → x / 2 ≡ p → ⊥
   not_here x h e = let z = off x e in let no : ⊥ = omega arith in no
 
-  pub rows_still : rowed mem' (entries t) ≡ rowed mem (entries t)
-  rows_still = kept_rows mem mem' same en ep (entries t)
+  pub rows_still : rows_of then ≡ rows_of r
+  rows_still = ap (λ ns. map (λ e. (e.0, walk (λ x. get_or ns x 0) e.1.first e.1.len)) r.nodes.entries) en
 
-  pub standing_still : (x : ℕ) → standing x (rowed mem' (entries t)) ≡ standing x (rowed mem (entries t))
-  standing_still x = ap (standing x) rows_still
-
-  owned_still : (d : N) → Owned K d (cell_keys mem) (rowed mem (entries t)) → Owned K d (cell_keys mem') (rowed mem' (entries t))
-  owned_still d O =
-      owned_as K d (wrote (cell_keys mem) p a b) (cell_keys mem') (rowed mem (entries t)) (rowed mem' (entries t)) ek rows_still
+  owned_still : (d : N) → Owned (keys value order) d (keys_of then) (rows_of r)
+  owned_still d =
+      subst (λ ks. Owned (keys value order) d ks (rows_of r)) (sym ek)
       (λ i c l h.
-      let s = stands_in_row d (rowed mem (entries t)) i c l h in
-      ap value (key_other d (cell_keys mem) p a b (twin c) (λ e. not_here c s (omega arith))) ∙ O i c l h)
+      let u = stands_in_row d (rows_of r) i c l h in
+      ap value (key_other d (keys_of r) p a b (twin c) (λ e. not_here c u (omega arith))) ∙ s.owned d i c l h)
 
-  pub stage_still : Stage value order hashed t mem → Stage value order hashed t mem'
-  stage_still s = record {
-    nodes = s.nodes;
-    small = omega (arith, s.small);
-    rings = kept_rings mem mem' same en ep (entries t) s.rings;
-    alone = λ x. let e = standing_still x in omega (arith, s.alone x);
-    owned = λ d. owned_still d (s.owned d);
+  pub stage_still : Stage value order then
+  stage_still = record {
+    apart = s.apart;
+    fits = s.fits;
+    small = omega (arith, s.small, same_long (λ c. c.next) r.cells mem' en);
+    rings = λ i e l. rekeyed_linked r.cells mem' (get_or r.nodes.entries i e).1 en ep (s.rings i e l);
+    alone = λ x. rw rows_still (s.alone x);
+    owned = λ d. rw rows_still (owned_still d);
   }
 
-  pub noded_still : noded (cell_keys mem') (rowed mem' (entries t)) ≡ noded (cell_keys mem) (rowed mem (entries t))
+  pub noded_still : noded (keys_of then) (rows_of then) ≡ noded (keys_of r) (rows_of r)
   noded_still =
-      ap (λ ks. noded ks (rowed mem' (entries t))) ek ∙ ap (noded (wrote (cell_keys mem) p a b)) rows_still
-      ∙ noded_agree a (cell_keys mem) (wrote (cell_keys mem) p a b) (rowed mem (entries t))
+      (λ i. noded (ek i) (rows_still i))
+      ∙ noded_agree a (keys_of r) (wrote (keys_of r) p a b) (rows_of r)
       (λ x h.
-      let l = below x h in
-      (omega (arith, length-map mem (λ c. c.key)), omega (arith, length-map mem (λ c. c.key), length_wrote a (cell_keys mem) p a b), key_other a (cell_keys mem) p a b x (not_here x h)))
+      let l : x < length (keys_of r) = omega (arith, length-map r.cells (λ c. c.key), stands_within s x h) in
+      (l, omega (arith, length_wrote a (keys_of r) p a b), key_other a (keys_of r) p a b x (not_here x h)))

@@ -1,4 +1,4 @@
 pub mod Stages
 pub mod Seats
-pub mod Parts
 pub mod Looks
+pub mod Heads

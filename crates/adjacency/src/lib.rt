@@ -1,8 +1,9 @@
-// The three parts of a map, and what a link's coming and going does to them.
+// The nodes of a map with their rows, and what the coming and going of a link's cells does to them.
 #![tactic(auto)]
 
-pub mod adding;
-mod edits;
-mod joins;
-mod moves;
-pub mod removing;
+pub mod adjacency;
+pub mod edits;
+pub mod joins;
+pub mod leaves;
+pub mod moves;
+pub mod reads;

@@ -8,7 +8,7 @@ use Rattle.keys.specs.declared.kinds.Kind.{Kind}
 use Rattle.keys.specs.declared.kinds.Kind.TheVariants.{Undirected}
 use Rattle.lists.specs.Positions.{position}
 use Rattle.lists.proofs.Positions.{found_within}
-use Rattle.table.specs.Tables.{Apart}
+use Rattle.table.specs.Content.{Apart}
 use Rattle.rows.specs.HalfEdges.{side, twin}
 use Rattle.model.specs.Keys.{Keys, eq}
 use Rattle.model.specs.Lists.{bit, found}

@@ -7,7 +7,7 @@ use Rattle.keys.specs.declared.kinds.Direction.TheVariants.{Outgoing, Incoming}
 use Rattle.keys.specs.declared.kinds.Kind.{Kind}
 use Rattle.lists.specs.Positions.{position}
 use Rattle.lists.specs.Swap.{swap_removed}
-use Rattle.table.specs.Tables.{Apart}
+use Rattle.table.specs.Content.{Apart}
 use Rattle.rows.specs.Rings.{nth}
 use Rattle.rows.specs.HalfEdges.{side, twin}
 use Rattle.model.specs.Keys.{Keys, eq}

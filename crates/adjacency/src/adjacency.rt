@@ -1,0 +1,71 @@
+ghost use Rattle.std.specs.Prelude.{◌≡◌, ◌/◌, min, [], length, take};
+ghost use Rattle.table.specs.Tables.{sought};
+ghost use Rattle.adjacency.specs.Stages.{Stage, keys_of};
+
+use keys::nodes::NodeTrait;
+use rows::cells::{Cell, RowHead};
+use rows::memory::Rows;
+use std::marker::Model;
+use table::slot::Slot;
+use table::table::{Table, Vacancy};
+
+/// The nodes of a map, each with the cells of its row, over lent memory.
+#[derive(Drop)]
+pub struct Adjacency<'a, N: NodeTrait> {
+    pub(crate) nodes: Table<'a, N, RowHead>,
+    pub(crate) rows: Rows<'a, N>,
+}
+
+// Clauses see the table of the nodes, and the cells of all rows.
+impl<'a, N: NodeTrait> Model for Adjacency<'a, N> {
+    ghost use Rattle.adjacency.specs.Stages.{NodeRows, Stage};
+
+    ghost Value = { NodeRows N };
+
+    ghost view = { λ s. record { nodes = s.nodes; cells = s.rows } };
+
+    ghost invariant = { λ s. Stage N.value N.order (record { nodes = s.nodes; cells = s.rows }) };
+}
+
+impl<'a, N: NodeTrait> Adjacency<'a, N> {
+    /// No nodes, over memories of any length; what they hold does not count.
+    pub fn new(nodes: &'a mut [Slot<N, RowHead>], cells: &'a mut [Cell<N>]) -> Self
+        ensures entries { result.nodes.entries ≡ [] }
+        ensures room { result.nodes.room ≡ min (length nodes.old) 65535 }
+        ensures cells { result.cells ≡ take 131070 cells.old }
+    {
+        Adjacency {
+            nodes: Table::new(nodes),
+            rows: Rows::new(cells),
+        }
+    }
+
+    /// How many nodes there are.
+    pub fn len(&self) -> usize
+        ensures { result ≡ length self.now.nodes.entries }
+    {
+        self.nodes.len()
+    }
+
+    /// How many nodes there is room for.
+    pub fn room(&self) -> usize
+        ensures { result ≡ self.now.nodes.room }
+    {
+        self.nodes.capacity()
+    }
+
+    /// How many links there are cells for.
+    pub fn link_room(&self) -> usize
+        ensures { result ≡ length (keys_of self.now) / 2 }
+    {
+        self.rows.room()
+    }
+
+    /// The place of the node of `n`'s value, or where such a node would go.
+    pub fn find(&self, n: &N) -> Result<usize, Vacancy>
+        ensures found { result ≡ sought N.order N.value N.hashed self.now.nodes.room self.now.nodes.entries n.now }
+        ensures stage { Stage N.value N.order self.now }
+    {
+        self.nodes.find(n)
+    }
+}

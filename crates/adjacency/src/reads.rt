@@ -1,0 +1,53 @@
+// What a walk along a row reads.
+ghost use Rattle.std.specs.Prelude.{◌≡◌, ◌<◌, length, slice_index_or};
+ghost use Rattle.std.specs.List.{slice_get};
+ghost use Rattle.model.specs.Keys.{keys};
+ghost use Rattle.rows.specs.Walks.{upcoming, first_of};
+ghost use Rattle.adjacency.specs.Heads.{head_of, row_of};
+ghost use Rattle.adjacency.specs.Stages.{keys_of};
+
+use crate::adjacency::Adjacency;
+use keys::nodes::NodeTrait;
+use rows::asked::Asked;
+use rows::cells::RowHead;
+use rows::walk::Walk;
+
+impl<'a, N: NodeTrait> Adjacency<'a, N> {
+    /// The head of the row of `n`, where there is such a node.
+    pub fn head(&self, n: &N) -> Option<RowHead>
+        ensures { result ≡ head_of (keys N.value N.order) (N.value n.now) self.now.nodes.entries }
+    {
+        let i = self.nodes.find(n).ok()?;
+        Some(self.nodes.value_at(i))
+    }
+
+    /// The same, and the row of no cells for an absent node.
+    pub fn row(&self, n: &N) -> RowHead
+        ensures { result ≡ row_of (keys N.value N.order) (N.value n.now) self.now.nodes.entries }
+    {
+        self.head(n).unwrap_or(RowHead::empty())
+    }
+
+    /// The key of the cell `c`.
+    pub fn key(&self, c: u32) -> N
+        requires { c < length (keys_of self.now) }
+        ensures { (d : N) → result ≡ slice_index_or (keys_of self.now) c d }
+    {
+        self.rows.key(c)
+    }
+
+    /// The next cell of the walk whose entry the direction shows, where the row is that of the node. The walk goes on
+    /// after that cell. It ends at a cell that is not in the memory.
+    pub fn advance(&self, asked: Asked<N>, walk: &mut Walk) -> Option<u32>
+        ensures { (e : N) → (result, upcoming (keys N.value N.order) e self.now.cells asked.kind asked.direction (N.value asked.node) walk.new) ≡ first_of (upcoming (keys N.value N.order) e self.now.cells asked.kind asked.direction (N.value asked.node) walk.old) }
+    {
+        self.rows.advance(asked, walk)
+    }
+
+    /// The cell that `k` cells of the walk come before, of those that the direction shows.
+    pub fn nth_cell(&self, asked: Asked<N>, walk: Walk, k: usize) -> Option<u32>
+        ensures { (e : N) → result ≡ slice_get (upcoming (keys N.value N.order) e self.now.cells asked.kind asked.direction (N.value asked.node) walk) k }
+    {
+        self.rows.nth_cell(asked, walk, k)
+    }
+}
