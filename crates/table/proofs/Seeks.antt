@@ -85,7 +85,7 @@ found_none None v w e = (refl, cc)
 found_none (Some i) v w e = let z : ◌≡◌ {A = ℕ} 0 1 = cc in let no : ⊥ = omega arith in absurd no
 
 -- a search that was answered with a vacancy: no entry has the key, and the vacancy is its hash's
-sought_vacant : {K V W : Type 0} (order : W → W → Ordering) (laws : Laws order) (value : K → W) (hashed : K → ℕ) (room : ℕ) (es : List (K × V)) (k : K) (w : Vacancy)
+pub sought_vacant : {K V W : Type 0} (order : W → W → Ordering) (laws : Laws order) (value : K → W) (hashed : K → ℕ) (room : ℕ) (es : List (K × V)) (k : K) (w : Vacancy)
     → sought order value hashed room es k ≡ Err w → Absent value es k × (w ≡ vacancy room (hashed k))
 sought_vacant order laws value hashed room es k w e =
     let f = found_none (position (λ x. alike order (value x.0) (value k)) es) (vacancy room (hashed k)) w e in (

@@ -1,0 +1,4 @@
+// A link map over lent memory: petgraph's `GraphMap`.
+#![tactic(auto)]
+
+pub mod map;
