@@ -10,6 +10,7 @@ A function is its text without comments, clauses and ghost lines; tests are left
 5  clauses that stand in the contracts of three functions or more, and parameters that travel together through as many
 6  lent memory with a count beside it, and links by number
 7  calls that differ in one step only: functions alike but for the name of what they call
+8  runs of five lines or more that stand twice in the proofs, imports left out
 """
 import collections
 import glob
@@ -166,8 +167,31 @@ def point7():
                 at(path, n, row.strip())
 
 
+def point8():
+    seen = collections.defaultdict(list)
+    files = {}
+    for path in sorted(glob.glob('crates/*/proofs/**/*.antt', recursive=True)):
+        rows = [r.strip() for r in open(path).read().split('\n')]
+        files[path] = [(n, r) for n, r in enumerate(rows, 1) if r and not r.startswith(('use ', '--', 'record {', '}'))]
+        lines = files[path]
+        for i in range(len(lines) - 4):
+            seen[tuple(r for n, r in lines[i:i + 5])].append((path, i))
+    told = set()
+    for key, places in sorted(seen.items(), key=lambda kv: kv[1]):
+        for (p, i), (q, j) in itertools.combinations(places, 2):
+            a, b = files[p], files[q]
+            if i and j and a[i - 1][1] == b[j - 1][1]:
+                continue
+            n = 0
+            while i + n < len(a) and j + n < len(b) and a[i + n][1] == b[j + n][1] and (p != q or i + n < j):
+                n += 1
+            if n >= 5 and (p, i, q, j) not in told:
+                told.add((p, i, q, j))
+                print(f'{p}:{a[i][0]}: {n} lines, again at {q}:{b[j][0]}')
+
+
 def main():
-    for p in sys.argv[1:] or '1234567':
+    for p in sys.argv[1:] or '12345678':
         print(f'-- point {p}')
         globals()[f'point{p}']()
 
