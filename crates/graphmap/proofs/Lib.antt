@@ -1,0 +1,4 @@
+pub mod Keying
+pub mod Wants
+pub mod Looking
+pub mod Removals
