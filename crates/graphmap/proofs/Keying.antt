@@ -1,23 +1,41 @@
 -- The link table beside the list of links.
-use Rattle.std.proofs.Common.{◌≡◌, ℕ, ◌+◌, ◌*◌, ◌<◌, List, [], ◌∷◌, ◌++◌, length, get_or, set, Option, sym, ap, ◌∙◌, subst, ⊎_elim, arith}
+use Rattle.std.proofs.Common.{◌≡◌, ℕ, ◌+◌, ◌*◌, ◌<◌, List, [], ◌∷◌, ◌++◌, length, get_or, set, Err, Ordering, sym, ap, ◌∙◌, subst, ⊎_elim, arith}
 use Rattle.std.proofs.lemmas.List.{get_or-set_same, get_or-set_other, length-set, get_or_default, get_or_append_left, get_or_push, length_push}
 use Rattle.std.proofs.lemmas.Bool.{cases_eq, cases_lt}
-use Rattle.keys.specs.Order.{alike}
+use Rattle.keys.specs.Hashes.{pair_hash}
+use Rattle.keys.specs.Laws.{pair_laws}
+use Rattle.keys.specs.Order.{Laws, alike}
 use Rattle.keys.specs.Nodes.{by_both}
 use Rattle.keys.specs.declared.kinds.Kind.{Kind}
 use Rattle.lists.specs.Positions.{position}
-use Rattle.model.specs.Keys.{Keys}
+use Rattle.table.proofs.Seeks.{sought_vacant}
+use Rattle.table.specs.Searches.{Absent}
+use Rattle.table.specs.Tables.{sought}
+use Rattle.table.specs.declared.table.Vacancy.{Vacancy}
+use Rattle.model.specs.Keys.{Keys, keys}
 use Rattle.model.specs.Maps.{edge_key, canon, is_link}
 use Rattle.model.proofs.Positions.{position_same}
 use Rattle.model.proofs.Ends.{values, key_values, pair_test}
 use Rattle.halfedges.specs.Cells.{named, wrote, Keyed}
 use Rattle.halfedges.proofs.Stands.{key_other, key_first, key_second}
+use Rattle.graphmap.specs.Parts.{Parts, link_search}
 
 -- the table's search for the key q of a link is the list's search for the link
 pub link_sought : {N V E : Type 0} (K : Keys N V) (k : Kind) (a b : N) (ls : List ((N × N) × E)) (q : N × N) → q ≡ edge_key K k a b
     → position (λ l. alike (by_both K.order K.order) (values K l.0) (values K q)) ls ≡ position (is_link K (canon K k (K.value a) (K.value b))) ls
 link_sought K k a b ls q e =
     position_same _ _ (pair_test K q) ls ∙ ap (λ x. position (is_link K (values K x)) ls) e ∙ ap (λ κ. position (is_link K κ) ls) (key_values K k a b)
+
+module _ {N V E : Type 0} (value : N → V) (order : V → V → Ordering) where
+  pub key_search : (hashed : N → ℕ) (m : Parts N E) (a b : N) (q : N × N) → q ≡ edge_key (keys value order) m.kind a b
+      → sought (by_both order order) (values (keys value order)) (λ (y : N × N). pair_hash (hashed y.0) (hashed y.1)) m.links.room m.links.entries q ≡ link_search value order hashed m a b
+  key_search hashed m a b q e = ap (sought (by_both order order) (values (keys value order)) (λ (y : N × N). pair_hash (hashed y.0) (hashed y.1)) m.links.room m.links.entries) e
+
+  pub search_absent : Laws order → (hashed : N → ℕ) (m : Parts N E) (a b : N) (v : Vacancy) → link_search value order hashed m a b ≡ Err v
+      → Absent (values (keys value order)) m.links.entries (edge_key (keys value order) m.kind a b)
+  search_absent laws hashed m a b v e =
+      (sought_vacant (by_both order order) (pair_laws order order laws laws) (values (keys value order)) (λ (y : N × N). pair_hash (hashed y.0) (hashed y.1)) m.links.room m.links.entries
+      (edge_key (keys value order) m.kind a b) v e).0
 
 -- another weight leaves the keys
 module _ {N V E : Type 0} (K : Keys N V) (d : N) (k : Kind) (ks : List N) (ls ls' : List ((N × N) × E)) (i : ℕ) (w : E) (e₀ : (N × N) × E) (q : ls' ≡ set ls i ((get_or ls i e₀).0, w)) (li : i < length ls) where

@@ -1,12 +1,9 @@
 // A link is added to a map.
 ghost use Rattle.std.specs.Prelude.{◌≡◌, Err as Vacant};
-ghost use Rattle.keys.specs.Hashes.{pair_hash};
-ghost use Rattle.keys.specs.Nodes.{by_both};
-ghost use Rattle.table.specs.Tables.{sought};
 ghost use Rattle.model.specs.Keys.{keys};
 ghost use Rattle.model.specs.Maps.{edge_key};
 ghost use Rattle.model.specs.Calls.{add_new, add_edge};
-ghost use Rattle.graphmap.specs.Parts.{state_of};
+ghost use Rattle.graphmap.specs.Parts.{link_search, state_of};
 
 use crate::map::GraphMap;
 use adjacency::joins::lacking;
@@ -29,7 +26,7 @@ pub fn edge_key<N: NodeTrait>(kind: Kind, a: N, b: N) -> (N, N)
 impl<'a, N: NodeTrait, E: Copy> GraphMap<'a, N, E> {
     // Adds a link that is not there, where there is room. `v` is what the search for its key answered.
     fn add_new(&mut self, a: N, b: N, w: E, v: Vacancy) -> Result<Option<E>, Refusal>
-        requires absent { sought (by_both N.order N.order) (λ p. (N.value p.0, N.value p.1)) (λ p. pair_hash (N.hashed p.0) (N.hashed p.1)) self.old.links.room self.old.links.entries (edge_key (keys N.value N.order) self.old.kind a b) ≡ Vacant v }
+        requires absent { link_search N.value N.order N.hashed self.old a b ≡ Vacant v }
         ensures { (result, state_of self.new) ≡ add_new (keys N.value N.order) a b w (state_of self.old) }
     {
         let p = self.links.len();
