@@ -1,7 +1,8 @@
 -- A node is sought in the table and, where it is absent, put at its end.
-use Rattle.std.proofs.Common.{◌≤◌, ◌≡◌, ℕ, ◌+◌, Bool, not, List, [], ◌∷◌, ◌++◌, length, Some, None, Ok, Err, Option, Ordering, sym, refl, ap, ◌∙◌, subst, ⊎_elim, arith}
+use Rattle.std.proofs.Common.{◌≤◌, ◌≡◌, ℕ, ◌+◌, Bool, not, List, [], ◌∷◌, ◌++◌, length, Some, None, Ok, Err, Option, Result, Ordering, sym, refl, ap, ◌∙◌, subst, ⊎_elim, arith}
 use Rattle.std.proofs.lemmas.List.{get_or_append_left, get_or_push, length_push, map-append}
 use Rattle.std.proofs.lemmas.Bool.{cases_lt, cond-true, cond-false}
+use Rattle.std.specs.Result.{result_ok}
 use Rattle.keys.specs.Order.{Laws}
 use Rattle.lists.specs.Positions.{position}
 use Rattle.lists.proofs.Positions.{position_at, none_passes}
@@ -31,6 +32,11 @@ found_vacant (Some i) w v e = let z : ◌≡◌ {A = ℕ} 0 1 = cc in absurd (om
 pub found_ok : (o : Option ℕ) (w : Vacancy) (i : ℕ) → found o w ≡ Ok i → o ≡ Some i
 found_ok None w i e = let z : ◌≡◌ {A = ℕ} 0 1 = cc in absurd (omega arith)
 found_ok (Some j) w i e = ap Some (cc)
+
+-- what `ok` makes of it
+pub ok_found : (o : Option ℕ) (w : Vacancy) {r : Result ℕ Vacancy} {p : Option ℕ} → r ≡ found o w → p ≡ result_ok r → o ≡ p
+ok_found None w e f = sym (f ∙ ap result_ok e)
+ok_found (Some i) w e f = sym (f ∙ ap result_ok e)
 
 pub vacant_none : (o : Option ℕ) (w : Vacancy) → vacant (found o w) ≡ bit (not (some o))
 vacant_none None w = refl

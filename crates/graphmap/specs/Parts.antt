@@ -1,10 +1,14 @@
 -- The parts of a map: its kind, the nodes with their rows, and the table of links. What they stand for, and when they fit.
-use Rattle.std.specs.Prelude.{ℕ, ◌*◌, ◌/◌, ◌≤◌, min, List, length}
+use Rattle.std.specs.Prelude.{ℕ, ◌*◌, ◌/◌, ◌≤◌, min, List, length, Result}
 use Rattle.std.specs.declared.cmp.Ordering.{Ordering}
+use Rattle.keys.specs.Hashes.{pair_hash}
+use Rattle.keys.specs.Nodes.{by_both}
 use Rattle.keys.specs.declared.kinds.Kind.{Kind}
 use Rattle.table.specs.Content.{Content, Apart}
+use Rattle.table.specs.Tables.{sought}
+use Rattle.table.specs.declared.table.Vacancy.{Vacancy}
 use Rattle.model.specs.Keys.{keys}
-use Rattle.model.specs.Maps.{State}
+use Rattle.model.specs.Maps.{State, edge_key}
 use Rattle.halfedges.specs.Cells.{noded, Whole, Keyed}
 use Rattle.adjacency.specs.Stages.{NodeRows, rows_of, keys_of}
 
@@ -29,3 +33,8 @@ pub record Sound {N V E : Type 0} (value : N → V) (order : V → V → Orderin
   pub fits : 2 * length p.links.entries ≤ length (keys_of p.rows)
   pub whole : (d : N) → Whole (keys value order) d (keys_of p.rows) (length p.links.entries) (rows_of p.rows)
   pub keyed : (d : N) → Keyed (keys value order) d p.kind (keys_of p.rows) p.links.entries
+
+-- what the table of links answers to the search for the link from a to b
+abbrev pub link_search : {N V E : Type 0} → (N → V) → (V → V → Ordering) → (N → ℕ) → Parts N E → N → N → Result ℕ Vacancy
+link_search value order hashed p a b =
+    sought (by_both order order) (λ q. (value q.0, value q.1)) (λ q. pair_hash (hashed q.0) (hashed q.1)) p.links.room p.links.entries (edge_key (keys value order) p.kind a b)

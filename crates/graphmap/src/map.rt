@@ -1,5 +1,7 @@
 ghost use Rattle.std.specs.Prelude.{◌≡◌, ◌/◌, min, length};
+ghost use Rattle.keys.specs.Kinds.{directed};
 ghost use Rattle.model.specs.Maps.{fresh};
+ghost use Rattle.model.specs.Questions.{rooms};
 ghost use Rattle.graphmap.specs.Parts.{state_of};
 
 use adjacency::adjacency::Adjacency;
@@ -45,5 +47,33 @@ impl<'a, N: NodeTrait, E: Copy> GraphMap<'a, N, E> {
             adjacency: Adjacency::new(nodes, cells),
             links: Table::new(links),
         }
+    }
+    /// How many nodes there are.
+    pub fn node_count(&self) -> usize
+        ensures { result ≡ length (state_of self.now).nodes }
+    {
+        self.adjacency.len()
+    }
+
+    /// How many links there are.
+    pub fn edge_count(&self) -> usize
+        ensures { result ≡ length (state_of self.now).links }
+    {
+        self.links.len()
+    }
+
+    /// How many nodes and how many links there is room for.
+    pub fn capacity(&self) -> (usize, usize)
+        ensures { result ≡ rooms (state_of self.now) }
+    {
+        let links = self.links.capacity().min(self.adjacency.link_room());
+        (self.adjacency.room(), links)
+    }
+
+    /// Whether links have a direction.
+    pub fn is_directed(&self) -> bool
+        ensures { result ≡ directed (state_of self.now).kind }
+    {
+        self.kind.is_directed()
     }
 }

@@ -1,26 +1,20 @@
-use Rattle.std.proofs.Common.{◌≡◌, ◌<◌, length, ℕ, Some, None, Option, refl, sym, ap, ◌∙◌}
+use Rattle.std.proofs.Common.{◌≡◌, Some, None, sym, ap, ◌∙◌}
 use Rattle.std.specs.Option.{option_map}
-use Rattle.std.specs.Result.{result_ok}
 use Rattle.lists.specs.Positions.{position}
 use Rattle.lists.proofs.Positions.{found_within}
-use Rattle.table.specs.declared.table.Vacancy.{Vacancy}
-use Rattle.table.specs.Tables.{found}
 use Rattle.model.specs.Keys.{keys, eq}
 use Rattle.model.proofs.Positions.{found_at, found_none}
 use Rattle.adjacency.specs.Heads.{head_of}
 use Rattle.adjacency.proofs.Entries.{some_of}
+use Rattle.adjacency.proofs.Seating.{ok_found}
 use Rattle.adjacency.proofs.adjacency.Adjacency.head.Goals as goal
-
-ok_of_found : (o : Option ℕ) (w : Vacancy) → result_ok (found o w) ≡ o
-ok_of_found None w = refl
-ok_of_found (Some i) w = refl
 
 pub returns-in_err-i : goal.returns-in_err-i
 returns-in_err-i g c =
     let K = keys g.N.NodeTrait.value g.N.NodeTrait.order in
     let v = K.value c.args.n.now in
     let es = c.self.inside.nodes.entries in
-    let at : position (λ e. eq K (K.value e.0) v) es ≡ None = sym (ok_of_found _ _) ∙ sym (ap result_ok c.find.ensures) ∙ sym c.in_err-i.ensures.value in
+    let at : position (λ e. eq K (K.value e.0) v) es ≡ None = ok_found _ _ c.find.ensures c.in_err-i.ensures.value in
     c.from_residual.ensures ∙ sym (ap (option_map (λ e. e.1)) (found_none (λ e. eq K (K.value e.0) v) es at)) ∙ ap (λ z. head_of K v z.nodes.entries) c.self.view_is
 
 pub value_at-requires : goal.value_at-requires
@@ -28,7 +22,7 @@ value_at-requires g c =
     let K = keys g.N.NodeTrait.value g.N.NodeTrait.order in
     let v = K.value c.args.n.now in
     let es = c.self.inside.nodes.entries in
-    let at : position (λ e. eq K (K.value e.0) v) es ≡ Some c.in_ok-i.i = sym (ok_of_found _ _) ∙ sym (ap result_ok c.find.ensures) ∙ sym c.in_ok-i.ensures.value in
+    let at : position (λ e. eq K (K.value e.0) v) es ≡ Some c.in_ok-i.i = ok_found _ _ c.find.ensures c.in_ok-i.ensures.value in
     record { place = found_within (λ e. eq K (K.value e.0) v) es c.in_ok-i.i at }
 
 pub returns : goal.returns
@@ -36,6 +30,6 @@ returns g c =
     let K = keys g.N.NodeTrait.value g.N.NodeTrait.order in
     let v = K.value c.args.n.now in
     let es = c.self.inside.nodes.entries in
-    let at : position (λ e. eq K (K.value e.0) v) es ≡ Some c.in_ok-i.i = sym (ok_of_found _ _) ∙ sym (ap result_ok c.find.ensures) ∙ sym c.in_ok-i.ensures.value in
+    let at : position (λ e. eq K (K.value e.0) v) es ≡ Some c.in_ok-i.i = ok_found _ _ c.find.ensures c.in_ok-i.ensures.value in
     let d = some_of es c.in_ok-i.i (found_within (λ e. eq K (K.value e.0) v) es c.in_ok-i.i at) in
     ap Some (c.value_at.ensures d) ∙ sym (ap (option_map (λ e. e.1)) (found_at (λ e. eq K (K.value e.0) v) es c.in_ok-i.i d at)) ∙ ap (λ z. head_of K v z.nodes.entries) c.self.view_is

@@ -1,0 +1,69 @@
+use Rattle.std.proofs.Common.{◌≡◌, ◌<◌, length, Some, None, Ok, sym, ap, ◌∙◌}
+use Rattle.std.proofs.lemmas.Option.{slice_get-get_or}
+use Rattle.lists.specs.Positions.{position}
+use Rattle.lists.proofs.Positions.{found_within}
+use Rattle.table.specs.Tables.{replaced_at}
+use Rattle.model.specs.Keys.{keys}
+use Rattle.model.specs.Maps.{canon, is_link}
+use Rattle.model.specs.Calls.{add_found, add_edge}
+use Rattle.model.proofs.Positions.{found_at, found_none, amended_at}
+use Rattle.adjacency.proofs.Entries.{some_of}
+use Rattle.adjacency.proofs.Seating.{found_vacant, found_ok}
+use Rattle.graphmap.specs.Parts.{Parts, link_search, state_of}
+use Rattle.graphmap.proofs.Keying.{link_sought, key_search}
+use Rattle.graphmap.proofs.Kept.{sound_reweighted}
+use Rattle.graphmap.proofs.map.GraphMap.add_edge.Goals as goal
+
+pub invariant_of-self : goal.invariant_of-self
+invariant_of-self g c =
+    let K = keys g.N.NodeTrait.value g.N.NodeTrait.order in
+    let m : Parts g.row.N.Denot g.row.E.Denot = record { kind = c.self.inside.kind; rows = c.self.inside.adjacency; links = c.self.inside.links } in
+    let ls = m.links.entries in
+    let p = c.in-Ok.p in
+    let at : position (is_link K (canon K m.kind (K.value c.args.a) (K.value c.args.b))) ls ≡ Some p =
+    sym (link_sought K m.kind c.args.a c.args.b ls _ c.edge_key.ensures) ∙ found_ok _ _ p (sym c.find.ensures ∙ c.in-Ok.is) in
+    let l : p < length ls = found_within _ ls p at in
+    let d₀ = some_of ls p l in
+    let done = c.set_value.ensures.done ∙ ap (replaced_at ls p c.args.w) (slice_get-get_or ls p d₀ l) in
+    sound_reweighted m c.self.invariant p c.args.w d₀ c.set_value.new.self l (ap (λ z. z.1) done)
+
+pub returns-in-Ok : goal.returns-in-Ok
+returns-in-Ok g c =
+    let K = keys g.N.NodeTrait.value g.N.NodeTrait.order in
+    let m : Parts g.row.N.Denot g.row.E.Denot = record { kind = c.self.inside.kind; rows = c.self.inside.adjacency; links = c.self.inside.links } in
+    let ls = m.links.entries in
+    let p = c.in-Ok.p in
+    let κ = canon K m.kind (K.value c.args.a) (K.value c.args.b) in
+    let at : position (is_link K κ) ls ≡ Some p =
+    sym (link_sought K m.kind c.args.a c.args.b ls _ c.edge_key.ensures) ∙ found_ok _ _ p (sym c.find.ensures ∙ c.in-Ok.is) in
+    let l : p < length ls = found_within _ ls p at in
+    let d₀ = some_of ls p l in
+    let done = c.set_value.ensures.done ∙ ap (replaced_at ls p c.args.w) (slice_get-get_or ls p d₀ l) in
+    let links = ap (λ z. z.1) done ∙ sym (amended_at (is_link K κ) (λ x. (x.0, c.args.w)) ls p d₀ at) in
+    (λ i. (Ok (done i).0, state_of (record { kind = m.kind; rows = m.rows; links = record { entries = links i; room = c.set_value.ensures.room i } })))
+    ∙ sym (ap (λ f. add_found K f c.args.a c.args.b c.args.w (state_of m)) (found_at (is_link K κ) ls p d₀ at))
+    ∙ ap (λ z. add_edge K c.args.a c.args.b c.args.w (state_of z)) c.self.view_is
+
+pub add_new-requires : goal.add_new-requires
+add_new-requires g c =
+    let K = keys g.N.NodeTrait.value g.N.NodeTrait.order in
+    let m : Parts g.row.N.Denot g.row.E.Denot = record { kind = c.self.inside.kind; rows = c.self.inside.adjacency; links = c.self.inside.links } in
+    record {
+      absent = sym (ap (λ z. link_search K.value K.order g.N.NodeTrait.hashed z c.args.a c.args.b) c.self.view_is)
+          ∙ sym (key_search K.value K.order g.N.NodeTrait.hashed m c.args.a c.args.b c.edge_key.result c.edge_key.ensures)
+          ∙ sym c.find.ensures
+          ∙ c.in-Err.is;
+    }
+
+pub returns-in-Err : goal.returns-in-Err
+returns-in-Err g c =
+    let K = keys g.N.NodeTrait.value g.N.NodeTrait.order in
+    let m : Parts g.row.N.Denot g.row.E.Denot = record { kind = c.self.inside.kind; rows = c.self.inside.adjacency; links = c.self.inside.links } in
+    let ls = m.links.entries in
+    let κ = canon K m.kind (K.value c.args.a) (K.value c.args.b) in
+    let off : position (is_link K κ) ls ≡ None =
+    sym (link_sought K m.kind c.args.a c.args.b ls _ c.edge_key.ensures) ∙ found_vacant _ _ _ (sym c.find.ensures ∙ c.in-Err.is) in
+    c.add_new.ensures
+    ∙ sym (ap (λ z. add_found K None c.args.a c.args.b c.args.w (state_of z)) c.self.view_is)
+    ∙ sym (ap (λ f. add_found K f c.args.a c.args.b c.args.w (state_of m)) (found_none (is_link K κ) ls off))
+    ∙ ap (λ z. add_edge K c.args.a c.args.b c.args.w (state_of z)) c.self.view_is
