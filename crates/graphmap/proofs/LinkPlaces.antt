@@ -7,7 +7,7 @@ use Rattle.keys.specs.declared.kinds.Direction.{Direction}
 use Rattle.keys.specs.declared.kinds.Direction.TheVariants.{Outgoing, Incoming}
 use Rattle.keys.specs.declared.kinds.Kind.{Kind}
 use Rattle.lists.specs.Positions.{position}
-use Rattle.table.specs.Tables.{Apart}
+use Rattle.table.specs.Content.{Apart}
 use Rattle.model.specs.declared.edge.Edge.{Edge}
 use Rattle.model.specs.Keys.{Keys, eq}
 use Rattle.model.specs.Maps.{State, agree, along, is_link}
