@@ -16,7 +16,11 @@ returns g c =
     rw (← c.self.view_is) (record {
       cell = λ e. c.nth_cell.ensures e ∙ ap (λ z. slice_get (upcoming K e mem a.kind a.d (K.value a.n) z) a.k) (c.of-walk.ensures ∙ ap walk_of c.row.ensures.row);
       within = λ x is.
-          omega (arith, length-map mem (λ y. y.key), upcoming_within K a.n mem a.kind a.d (K.value a.n) w x
-          (count_place (upcoming K a.n mem a.kind a.d (K.value a.n) w) a.k x (sym is ∙ c.nth_cell.ensures a.n)));
+          omega (
+            arith,
+            length-map mem (λ y. y.key),
+            upcoming_within K a.n mem a.kind a.d (K.value a.n) w x
+                (count_place (upcoming K a.n mem a.kind a.d (K.value a.n) w) a.k x (sym is ∙ c.nth_cell.ensures a.n)),
+          );
       stage = c.row.ensures.stage;
     })

@@ -13,6 +13,10 @@ returns g c =
       origin = refl;
       next = c.advance.ensures;
       within = λ x is.
-          omega (arith, length-map m.adjacency.cells (λ y. y.key), upcoming_within K w.start m.adjacency.cells m.kind w.direction (K.value w.start) w.walk x
-          (first_count _ _ c.advance.result x (c.advance.ensures w.start) is));
+          omega (
+            arith,
+            length-map m.adjacency.cells (λ y. y.key),
+            upcoming_within K w.start m.adjacency.cells m.kind w.direction (K.value w.start) w.walk x
+                (first_count _ _ c.advance.result x (c.advance.ensures w.start) is),
+          );
     })
