@@ -39,7 +39,7 @@ impl<'a, N: NodeTrait, E: Copy> GraphMap<'a, N, E> {
     // The next cell of the walk.
     fn next_cell(&self, w: &mut Neighbors<N>) -> Option<u32>
         ensures origin { origin w.new ≡ origin w.old }
-        ensures next { (e : N) → (result, coming (keys N.value N.order) e self.now.rows.cells self.now.kind w.new) ≡ first_of (coming (keys N.value N.order) e self.now.rows.cells self.now.kind w.old) }
+        ensures next { (e : N) → let left = coming (keys N.value N.order) e self.now.rows.cells self.now.kind in (result, left w.new) ≡ first_of (left w.old) }
         ensures within { (c : ℕ) → result ≡ Present c → c < length (keys_of self.now.rows) }
     {
         let asked = Asked {
@@ -53,7 +53,7 @@ impl<'a, N: NodeTrait, E: Copy> GraphMap<'a, N, E> {
     /// The next neighbour of the walk.
     pub fn next_neighbor(&self, w: &mut Neighbors<N>) -> Option<N>
         ensures origin { origin w.new ≡ origin w.old }
-        ensures next { (e : N) → (result, coming (keys N.value N.order) e self.now.rows.cells self.now.kind w.new) ≡ first_by (λ c. Present (key_of e self.now.rows.cells c)) (coming (keys N.value N.order) e self.now.rows.cells self.now.kind w.old) }
+        ensures next { (e : N) → let left = coming (keys N.value N.order) e self.now.rows.cells self.now.kind in (result, left w.new) ≡ first_by (λ c. Present (key_of e self.now.rows.cells c)) (left w.old) }
     {
         let c = self.next_cell(w)?;
         Some(self.adjacency.key(c))
@@ -62,7 +62,7 @@ impl<'a, N: NodeTrait, E: Copy> GraphMap<'a, N, E> {
     /// The next edge of the walk. None where there is no such link.
     pub fn next_edge(&self, w: &mut Neighbors<N>) -> Option<Edge<N, E>>
         ensures origin { origin w.new ≡ origin w.old }
-        ensures next { (e : N) → (result, coming (keys N.value N.order) e self.now.rows.cells self.now.kind w.new) ≡ first_by (edge_of e self.now.rows.cells self.now.links.entries (origin w.old)) (coming (keys N.value N.order) e self.now.rows.cells self.now.kind w.old) }
+        ensures next { (e : N) → let left = coming (keys N.value N.order) e self.now.rows.cells self.now.kind in (result, left w.new) ≡ first_by (edge_of e self.now.rows.cells self.now.links.entries (origin w.old)) (left w.old) }
     {
         let c = self.next_cell(w)?;
         self.edge_at(w.start, w.direction, c)
