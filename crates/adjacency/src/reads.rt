@@ -4,7 +4,7 @@ ghost use Rattle.std.specs.List.{slice_get};
 ghost use Rattle.model.specs.Keys.{keys};
 ghost use Rattle.rows.specs.Walks.{upcoming, first_of};
 ghost use Rattle.adjacency.specs.Heads.{head_of, row_of};
-ghost use Rattle.adjacency.specs.Stages.{keys_of};
+ghost use Rattle.adjacency.specs.Stages.{Stage, keys_of};
 
 use crate::adjacency::Adjacency;
 use keys::nodes::NodeTrait;
@@ -15,7 +15,8 @@ use rows::walk::Walk;
 impl<'a, N: NodeTrait> Adjacency<'a, N> {
     /// The head of the row of `n`, where there is such a node.
     pub fn head(&self, n: &N) -> Option<RowHead>
-        ensures { result ≡ head_of (keys N.value N.order) (N.value n.now) self.now.nodes.entries }
+        ensures head { result ≡ head_of (keys N.value N.order) (N.value n.now) self.now.nodes.entries }
+        ensures stage { Stage N.value N.order self.now }
     {
         let i = self.nodes.find(n).ok()?;
         Some(self.nodes.value_at(i))
@@ -23,7 +24,8 @@ impl<'a, N: NodeTrait> Adjacency<'a, N> {
 
     /// The same, and the row of no cells for an absent node.
     pub fn row(&self, n: &N) -> RowHead
-        ensures { result ≡ row_of (keys N.value N.order) (N.value n.now) self.now.nodes.entries }
+        ensures row { result ≡ row_of (keys N.value N.order) (N.value n.now) self.now.nodes.entries }
+        ensures stage { Stage N.value N.order self.now }
     {
         self.head(n).unwrap_or(RowHead::empty())
     }

@@ -4,3 +4,8 @@ pub mod Kept
 pub mod Taking
 pub mod Looking
 pub mod Removals
+pub mod Lists
+pub mod NodeRows
+pub mod Upcoming
+pub mod LinkPlaces
+pub mod NodeLists

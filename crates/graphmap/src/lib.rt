@@ -2,5 +2,8 @@
 #![tactic(auto)]
 
 pub mod adding;
+mod edges;
 pub mod map;
+pub mod neighbors;
+pub mod questions;
 pub mod removing;

@@ -15,7 +15,10 @@ returns-in_err-i g c =
     let v = K.value c.args.n.now in
     let es = c.self.inside.nodes.entries in
     let at : position (λ e. eq K (K.value e.0) v) es ≡ None = ok_found _ _ c.find.ensures c.in_err-i.ensures.value in
-    c.from_residual.ensures ∙ sym (ap (option_map (λ e. e.1)) (found_none (λ e. eq K (K.value e.0) v) es at)) ∙ ap (λ z. head_of K v z.nodes.entries) c.self.view_is
+    record {
+      head = c.from_residual.ensures ∙ sym (ap (option_map (λ e. e.1)) (found_none (λ e. eq K (K.value e.0) v) es at)) ∙ ap (λ z. head_of K v z.nodes.entries) c.self.view_is;
+      stage = rw (← c.self.view_is) c.self.invariant;
+    }
 
 pub value_at-requires : goal.value_at-requires
 value_at-requires g c =
@@ -32,4 +35,7 @@ returns g c =
     let es = c.self.inside.nodes.entries in
     let at : position (λ e. eq K (K.value e.0) v) es ≡ Some c.in_ok-i.i = ok_found _ _ c.find.ensures c.in_ok-i.ensures.value in
     let d = some_of es c.in_ok-i.i (found_within (λ e. eq K (K.value e.0) v) es c.in_ok-i.i at) in
-    ap Some (c.value_at.ensures d) ∙ sym (ap (option_map (λ e. e.1)) (found_at (λ e. eq K (K.value e.0) v) es c.in_ok-i.i d at)) ∙ ap (λ z. head_of K v z.nodes.entries) c.self.view_is
+    record {
+      head = ap Some (c.value_at.ensures d) ∙ sym (ap (option_map (λ e. e.1)) (found_at (λ e. eq K (K.value e.0) v) es c.in_ok-i.i d at)) ∙ ap (λ z. head_of K v z.nodes.entries) c.self.view_is;
+      stage = rw (← c.self.view_is) c.self.invariant;
+    }

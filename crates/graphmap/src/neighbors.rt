@@ -1,0 +1,70 @@
+ghost use Rattle.std.specs.Prelude.{◌≡◌, ℕ, ◌<◌, map, length, Some as Present};
+ghost use Rattle.model.specs.Keys.{keys};
+ghost use Rattle.model.specs.Questions.{neighbor_list, edge_list};
+ghost use Rattle.rows.specs.Walks.{first_of};
+ghost use Rattle.adjacency.specs.Stages.{keys_of};
+ghost use Rattle.graphmap.specs.Parts.{state_of};
+ghost use Rattle.graphmap.specs.Walks.{first_by, origin, coming, key_of, edge_of};
+
+use crate::map::GraphMap;
+use keys::kinds::Direction;
+use keys::nodes::NodeTrait;
+use model::edge::Edge;
+use rows::asked::Asked;
+use rows::walk::Walk;
+
+/// A walk along the row of a node: the node, the direction that is asked for, and how far it has come. A walk that was
+/// made on another map ends, and gives keys and links of this one.
+#[derive(Clone, Copy)]
+pub struct Neighbors<N> {
+    start: N,
+    direction: Direction,
+    walk: Walk,
+}
+
+impl<'a, N: NodeTrait, E: Copy> GraphMap<'a, N, E> {
+    /// A walk from the start of the row of `n`; of an absent node nothing is to come.
+    pub fn neighbors_from(&self, n: N, d: Direction) -> Neighbors<N>
+        ensures origin { origin result ≡ (n, d) }
+        ensures neighbors { (e : N) → map (key_of e self.now.rows.cells) (coming (keys N.value N.order) e self.now.rows.cells self.now.kind result) ≡ neighbor_list (keys N.value N.order) n d (state_of self.now) }
+        ensures edges { (e : N) → map (edge_of e self.now.rows.cells self.now.links.entries (n, d)) (coming (keys N.value N.order) e self.now.rows.cells self.now.kind result) ≡ map Present (edge_list (keys N.value N.order) n d (state_of self.now)) }
+    {
+        Neighbors {
+            start: n,
+            direction: d,
+            walk: Walk::of(self.adjacency.row(&n)),
+        }
+    }
+
+    // The next cell of the walk.
+    fn next_cell(&self, w: &mut Neighbors<N>) -> Option<u32>
+        ensures origin { origin w.new ≡ origin w.old }
+        ensures next { (e : N) → let left = coming (keys N.value N.order) e self.now.rows.cells self.now.kind in (result, left w.new) ≡ first_of (left w.old) }
+        ensures within { (c : ℕ) → result ≡ Present c → c < length (keys_of self.now.rows) }
+    {
+        let asked = Asked {
+            kind: self.kind,
+            direction: w.direction,
+            node: w.start,
+        };
+        self.adjacency.advance(asked, &mut w.walk)
+    }
+
+    /// The next neighbour of the walk.
+    pub fn next_neighbor(&self, w: &mut Neighbors<N>) -> Option<N>
+        ensures origin { origin w.new ≡ origin w.old }
+        ensures next { (e : N) → let left = coming (keys N.value N.order) e self.now.rows.cells self.now.kind in (result, left w.new) ≡ first_by (λ c. Present (key_of e self.now.rows.cells c)) (left w.old) }
+    {
+        let c = self.next_cell(w)?;
+        Some(self.adjacency.key(c))
+    }
+
+    /// The next edge of the walk. None where there is no such link.
+    pub fn next_edge(&self, w: &mut Neighbors<N>) -> Option<Edge<N, E>>
+        ensures origin { origin w.new ≡ origin w.old }
+        ensures next { (e : N) → let left = coming (keys N.value N.order) e self.now.rows.cells self.now.kind in (result, left w.new) ≡ first_by (edge_of e self.now.rows.cells self.now.links.entries (origin w.old)) (left w.old) }
+    {
+        let c = self.next_cell(w)?;
+        self.edge_at(w.start, w.direction, c)
+    }
+}
