@@ -1,5 +1,5 @@
 -- The cells of the last link l take the places of those of the link g, which stand nowhere.
-use Rattle.std.proofs.Common.{◌≡◌, ℕ, ◌+◌, ◌*◌, ◌/◌, ◌<◌, ◌≤◌, true, false, not, eqb, List, length, get_or, sym, ap, ◌∙◌, arith}
+use Rattle.std.proofs.Common.{◌≡◌, ℕ, ◌+◌, ◌*◌, ◌<◌, true, false, not, eqb, List, length, get_or, sym, ap, ◌∙◌, arith}
 use Rattle.model.specs.Keys.{Keys, eq}
 use Rattle.model.specs.Lists.{bit}
 use Rattle.rows.specs.HalfEdges.{twin}

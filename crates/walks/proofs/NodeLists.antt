@@ -20,7 +20,7 @@ use Rattle.rows.specs.Walks.{walk_of, upcoming}
 use Rattle.halfedges.proofs.Stands.{stands_below}
 use Rattle.halfedges.proofs.Told.{entry}
 use Rattle.adjacency.specs.Parts.{Sound, state_of}
-use Rattle.walks.specs.Heads.{head_of, row_of}
+use Rattle.adjacency.specs.Heads.{head_of, row_of}
 use Rattle.walks.specs.Walks.{key_of, edge_of}
 use Rattle.walks.proofs.Lists.{nth_through, nth_answered}
 use Rattle.walks.proofs.NodeRows.{Headed, headed, degree_is}

@@ -21,7 +21,7 @@ use Rattle.halfedges.proofs.Rows.{stands_in_row}
 use Rattle.halfedges.proofs.Told.{entry, told_is, told_none}
 use Rattle.adjacency.specs.Stages.{rowed, Rings}
 use Rattle.adjacency.proofs.Entries.{rowed_length, row_read}
-use Rattle.walks.specs.Heads.{head_of, row_of}
+use Rattle.adjacency.specs.Heads.{head_of, row_of}
 use Rattle.walks.proofs.Lists.{mapped_mapped, found_map, found_there}
 
 -- a search that was answered with a vacancy

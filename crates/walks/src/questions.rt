@@ -6,7 +6,7 @@ ghost use Rattle.adjacency.specs.Parts.{Sound, state_of};
 ghost use Rattle.table.specs.Tables.{entries};
 ghost use Rattle.table.specs.Tables.{Sound as SoundTable};
 ghost use Rattle.rows.specs.Walks.{walk_of, upcoming};
-ghost use Rattle.walks.specs.Heads.{row_of};
+ghost use Rattle.adjacency.specs.Heads.{row_of};
 
 use crate::heads::{head_of, row_of};
 use crate::links::edge_at;
