@@ -23,14 +23,6 @@ use rows::cells::{Cell, RowHead};
 use rows::search::search;
 use table::table::Table;
 
-// The other cell of the same link.
-pub(crate) fn twin_of(c: u32) -> u32
-    requires { c < 4294967295 }
-    ensures { result ≡ twin c }
-{
-    c + 1 - 2 * (c % 2)
-}
-
 // Takes the link `p`, whose cells stand in no row, out of the links, and answers its weight.
 pub(crate) fn unhook<N: NodeTrait, E: Copy>(
     kind: Kind,
@@ -58,59 +50,6 @@ pub(crate) fn unhook<N: NodeTrait, E: Copy>(
     };
     settle(nodes, rows.cells, taken.gap, taken.last);
     Some(taken.entry.1)
-}
-
-// The cell of the link from `a` to `b` in the row of `a`, which is the one at `i`. Of the rows of the two the shorter
-// is searched.
-fn entry_of<N: NodeTrait>(
-    kind: Kind,
-    nodes: &Table<'_, N, RowHead>,
-    rows: &Rows<'_, N>,
-    i: usize,
-    j: usize,
-    a: &N,
-    b: &N,
-) -> Option<u32>
-    requires stage { Stage N.value N.order N.hashed nodes.now rows.now.cells.now }
-    requires from { i < length (entries nodes.now) }
-    requires to { j < length (entries nodes.now) }
-    ensures { (d : N) → Looked (keys N.value N.order) d kind (cell_keys rows.now.cells.now) (rowed rows.now.cells.now (entries nodes.now)) i j (N.value a.now) (N.value b.now) result }
-{
-    let from = nodes.value_at(i);
-    let to = nodes.value_at(j);
-    if i == j || from.len() <= to.len() {
-        return search(rows.cells, from, kind, b, Direction::Outgoing);
-    }
-    match search(rows.cells, to, kind, a, Direction::Incoming) {
-        Some(c) => Some(twin_of(c)),
-        None => None,
-    }
-}
-
-// Takes the cell `c` out of the row at `i`, and its twin out of the row at `j`, unless the two are one row.
-fn sever<N: NodeTrait>(
-    nodes: &mut Table<'_, N, RowHead>,
-    cells: &mut [Cell<N>],
-    i: usize,
-    j: usize,
-    c: u32,
-)
-    requires stage { Stage N.value N.order N.hashed nodes.old cells.old }
-    requires from { i < length (entries nodes.old) }
-    requires to { j < length (entries nodes.old) }
-    requires held { (d : N) → 1 ≤ count c (row_at (rowed cells.old (entries nodes.old)) i d) }
-    requires other { (i ≢ j) → (d : N) → 1 ≤ count (twin c) (row_at (rowed cells.old (entries nodes.old)) j d) }
-    ensures stage { Stage N.value N.order N.hashed nodes.new cells.new }
-    ensures room { capacity nodes.new ≡ capacity nodes.old }
-    ensures keys { cell_keys cells.new ≡ cell_keys cells.old }
-    ensures one { i ≡ j → (d : N) (k : ℕ) → k < length (row_at (rowed cells.old (entries nodes.old)) i d) → nth (row_at (rowed cells.old (entries nodes.old)) i d) k ≡ c → rowed cells.new (entries nodes.new) ≡ put_row (rowed cells.old (entries nodes.old)) i d (swap_removed (row_at (rowed cells.old (entries nodes.old)) i d) k) }
-    ensures two { (i ≢ j) → (d : N) (k : ℕ) → k < length (row_at (rowed cells.old (entries nodes.old)) i d) → nth (row_at (rowed cells.old (entries nodes.old)) i d) k ≡ c → PartedTwice d (rowed cells.old (entries nodes.old)) (rowed cells.new (entries nodes.new)) i j c k }
-{
-    leave(nodes, cells, i, c);
-    if i == j {
-        return;
-    }
-    leave(nodes, cells, j, twin_of(c));
 }
 
 /// Takes out the link from `a` to `b` and answers its weight.
