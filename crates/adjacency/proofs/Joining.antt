@@ -1,5 +1,5 @@
 -- The cells of a new link p from a to b, whose keys were written: how often each stands then, and what the rows are told.
-use Rattle.std.proofs.Common.{◌≡◌, ℕ, ◌+◌, ◌*◌, ◌/◌, ◌<◌, ◌≤◌, true, false, Bool, cond, eqb, List, length, get_or, sym, refl, ap, ◌∙◌, subst, arith}
+use Rattle.std.proofs.Common.{◌≡◌, ℕ, ◌+◌, ◌*◌, ◌/◌, ◌<◌, true, false, cond, eqb, List, length, get_or, sym, refl, ap, ◌∙◌, arith}
 use Rattle.keys.specs.declared.kinds.Direction.{Direction}
 use Rattle.keys.specs.declared.kinds.Direction.TheVariants.{Outgoing, Incoming}
 use Rattle.model.specs.Keys.{Keys, eq}
@@ -17,8 +17,8 @@ module _ {N V : Type 0} (K : Keys N V) (ks : List N) (p : ℕ) (a b : N) (fits :
   first_told : (d : N) → ◌≡◌ {A = N × Direction} (get_or ks' (2 * p) d, side (2 * p)) (b, Outgoing)
   first_told d i = ((ap (λ z. get_or z (2 * p) d) keys ∙ key_first d ks p a b fits) i, side_even (2 * p) (omega arith) i)
 
-  second_told : (d : N) → ◌≡◌ {A = N × Direction} (get_or ks' (2 * p + 1) d, side (2 * p + 1)) (a, Incoming)
-  second_told d i = ((ap (λ z. get_or z (2 * p + 1) d) keys ∙ key_second d ks p a b fits) i, side_odd (2 * p + 1) (omega arith) i)
+  second_told : {ks₂ : List N} → ks₂ ≡ ks' → (d : N) → ◌≡◌ {A = N × Direction} (get_or ks₂ (2 * p + 1) d, side (2 * p + 1)) (a, Incoming)
+  second_told still d i = ((ap (λ z. get_or z (2 * p + 1) d) (still ∙ keys) ∙ key_second d ks p a b fits) i, side_odd (2 * p + 1) (omega arith) i)
 
   -- where the ends are the same, the first cell alone is put into a row
   module _ (self : eq K (K.value a) (K.value b) ≡ true) where
@@ -47,7 +47,9 @@ module _ {N V : Type 0} (K : Keys N V) (ks : List N) (p : ℕ) (a b : N) (fits :
         let k = ap (λ z. stands K d z (p + 1) x) keys in
         omega arith
 
-    pub joined_two : (m m₁ m' : List (Node N)) → m₁ ≡ entered K a (get_or ks' (2 * p) a, side (2 * p)) m → m' ≡ entered K b (get_or ks' (2 * p + 1) a, side (2 * p + 1)) m₁ → m' ≡ joined K a b m
-    joined_two m m₁ m' one two =
-        two ∙ (λ i. entered K b (second_told a i) ((one ∙ ap (λ e. entered K a e m) (first_told a)) i))
+    pub joined_two : {ks₂ : List N} → ks₂ ≡ ks' → (m m₁ m' : List (Node N)) → m₁ ≡ entered K a (get_or ks' (2 * p) a, side (2 * p)) m → m' ≡ entered K b (get_or ks₂ (2 * p + 1) a, side (2 * p + 1)) m₁
+        → m' ≡ joined K a b m
+    joined_two still m m₁ m' one two =
+        two
+        ∙ (λ i. entered K b (second_told still a i) ((one ∙ ap (λ e. entered K a e m) (first_told a)) i))
         ∙ sym (ap (λ u. cond u (entered K a (b, Outgoing) m) (entered K b (a, Incoming) (entered K a (b, Outgoing) m))) other)

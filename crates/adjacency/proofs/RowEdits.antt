@@ -1,19 +1,16 @@
 -- A row is read, edited in the memory and written back: what the rows are then, and that they fit one another.
-use Rattle.std.proofs.Common.{◌≡◌, ◌⊎◌, ℕ, ◌+◌, ◌<◌, ◌≤◌, eqb, List, [], ◌∷◌, ◌++◌, length, get_or, set, Option, Ordering, sym, ap, ◌∙◌, subst, ⊎_elim, inl, inr, arith}
+use Rattle.std.proofs.Common.{◌≡◌, ◌⊎◌, ℕ, ◌<◌, ◌≤◌, List, [], ◌∷◌, length, get_or, set, Option, Ordering, sym, ap, ◌∙◌, subst, ⊎_elim, arith}
 use Rattle.std.proofs.lemmas.List.{length-set, length-map, get_or_default}
-use Rattle.std.proofs.lemmas.Bool.{cases_eq}
-use Rattle.lists.specs.Swap.{swap_removed}
 use Rattle.table.specs.Tables.{replaced}
 use Rattle.table.proofs.Apart.{apart_set}
 use Rattle.model.specs.Keys.{Keys, keys}
-use Rattle.model.specs.Lists.{bit}
 use Rattle.rows.specs.declared.cells.RowHead.{RowHead}
-use Rattle.rows.specs.Rings.{none, nth, Apart, Holds}
+use Rattle.rows.specs.Rings.{none, Apart, Holds}
 use Rattle.rows.specs.HalfEdges.{twin}
 use Rattle.rows.specs.Links.{bare, listed, Linked, Kept}
 use Rattle.rows.proofs.Lists.{same_long, listed_length}
 use Rattle.halfedges.specs.Cells.{count, standing, named, row_at, put_row, Owned}
-use Rattle.halfedges.proofs.Counts.{bit_is, bit_other, count_apart, count_holds, count_push, count_set, count_swap_removed}
+use Rattle.halfedges.proofs.Counts.{count_apart, count_holds}
 use Rattle.halfedges.proofs.Rows.{standing_put, owned_put}
 use Rattle.adjacency.specs.Stages.{NodeRows, Stage, Rings, rowed, rows_of, keys_of}
 use Rattle.adjacency.proofs.Entries.{some_of, row_read, rowed_length, value_put}

@@ -17,7 +17,7 @@ use Rattle.model.proofs.Tests.{eq_itself, other_eq}
 use Rattle.model.proofs.Positions.{position_map, position_push, found_at, found_none}
 use Rattle.rows.specs.declared.cells.Cell.{Cell}
 use Rattle.rows.specs.declared.cells.RowHead.{RowHead}
-use Rattle.rows.specs.Links.{bare, cell_keys, Linked}
+use Rattle.rows.specs.Links.{bare, Linked}
 use Rattle.rows.proofs.Lists.{bare_linked}
 use Rattle.halfedges.specs.Cells.{standing, noded, Owned}
 use Rattle.halfedges.proofs.Rows.{standing_more, owned_more, noded_more}

@@ -1,11 +1,16 @@
 -- The cells of the last link l take the places of those of the link g, which stand nowhere.
-use Rattle.std.proofs.Common.{◌≡◌, ℕ, ◌+◌, ◌*◌, ◌/◌, ◌<◌, ◌≤◌, true, false, not, eqb, List, length, get_or, sym, ap, ◌∙◌, arith}
+use Rattle.std.proofs.Common.{◌≡◌, ℕ, ◌+◌, ◌*◌, ◌<◌, true, false, not, eqb, List, length, get_or, sym, ap, ◌∙◌, arith}
 use Rattle.model.specs.Keys.{Keys, eq}
 use Rattle.model.specs.Lists.{bit}
 use Rattle.rows.specs.HalfEdges.{twin}
 use Rattle.halfedges.specs.Cells.{standing, named, stands, wrote, moved, Off}
 use Rattle.halfedges.proofs.Stands.{stands_even, stands_odd}
 use Rattle.halfedges.proofs.Moves.{whole_self, whole_both}
+use Rattle.adjacency.specs.Stages.{NodeRows, keys_of}
+
+-- a key that was read in what was opened as r
+pub key_now : {N : Type 0} {r now : NodeRows N} → r ≡ now → {k : N} (c : ℕ) → ((d : N) → k ≡ get_or (keys_of r) c d) → (d : N) → k ≡ get_or (keys_of now) c d
+key_now is c read d = read d ∙ ap (λ z. get_or (keys_of z) c d) is
 
 -- a is the key of the last link's second cell, and b that of its first
 module _ {N V : Type 0} (K : Keys N V) {ks : List N} {g l : ℕ} {ns : List (N × List ℕ)} (off : (d : N) → Off K d ks g (l + 1) ns) (lt : g < l) (fits : 2 * l + 1 < length ks)

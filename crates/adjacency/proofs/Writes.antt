@@ -1,12 +1,11 @@
 -- The keys of a link's cells are written while the cells stand nowhere: every row stays as it is, and is told alike.
 use Rattle.std.proofs.Common.{◌≡◌, ℕ, ◌/◌, ◌<◌, ◌≤◌, List, map, length, get_or, Ordering, sym, ap, ◌∙◌, subst, arith}
 use Rattle.std.proofs.lemmas.List.{length-map}
-use Rattle.model.specs.Keys.{Keys, keys}
+use Rattle.model.specs.Keys.{keys}
 use Rattle.model.proofs.Tallies.{tally_some}
 use Rattle.rows.specs.declared.cells.Cell.{Cell}
-use Rattle.rows.specs.declared.cells.RowHead.{RowHead}
 use Rattle.rows.specs.HalfEdges.{twin}
-use Rattle.rows.specs.Links.{cell_keys, nexts, prevs, walk, listed}
+use Rattle.rows.specs.Links.{cell_keys, nexts, prevs, walk}
 use Rattle.rows.proofs.Lists.{same_long}
 use Rattle.rows.proofs.Frames.{rekeyed_linked}
 use Rattle.halfedges.specs.Cells.{count, standing, noded, wrote, Owned}
@@ -14,7 +13,7 @@ use Rattle.halfedges.proofs.Counts.{count_holds}
 use Rattle.halfedges.proofs.Rows.{stands_in_row}
 use Rattle.halfedges.proofs.Stands.{key_other, length_wrote}
 use Rattle.halfedges.proofs.Told.{noded_agree}
-use Rattle.adjacency.specs.Stages.{NodeRows, Stage, rowed, rows_of, keys_of}
+use Rattle.adjacency.specs.Stages.{NodeRows, Stage, rows_of, keys_of}
 use Rattle.adjacency.proofs.Entries.{some_of, row_read, rowed_length}
 
 -- a cell that stands is in the memory

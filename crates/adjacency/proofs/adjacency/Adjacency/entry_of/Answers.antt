@@ -1,7 +1,6 @@
 use Rattle.std.proofs.Common.{rules, ◌≡◌, Some, None, Option, ℕ, refl, sym, ap, ◌∙◌, inl, inr}
 use borrow.Author.Tests.{tests}
 use Rattle.std.specs.Option.{option_map}
-use Rattle.keys.specs.declared.kinds.Direction.{Direction}
 use Rattle.keys.specs.declared.kinds.Direction.TheVariants.{Outgoing, Incoming}
 use Rattle.model.specs.Keys.{keys}
 use Rattle.model.specs.Lists.{found}

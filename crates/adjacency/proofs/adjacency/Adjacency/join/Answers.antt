@@ -1,4 +1,4 @@
-use Rattle.std.proofs.Common.{◌≡◌, ℕ, ◌+◌, ◌*◌, ◌==◌, sym, ap, ◌∙◌, arith}
+use Rattle.std.proofs.Common.{◌+◌, ◌*◌, ◌==◌, sym, ap, ◌∙◌, arith}
 use Rattle.keys.specs.Laws.{equal_alike}
 use Rattle.model.specs.Keys.{keys}
 use Rattle.model.specs.Lists.{bit}
@@ -34,7 +34,6 @@ returns-then-eq-clause-joined g c =
     let K = keys g.N.NodeTrait.value g.N.NodeTrait.order in
     let p = c.args.p in
     let ks = keys_of c.args.self.now in
-    let ns = rows_of c.args.self.now in
     let w = c.write_link.ensures in
     let n = c.note.ensures in
     let same = sym (c.eq.ensures ∙ equal_alike g.N.NodeTrait.value g.N.NodeTrait.order g.met.N.NodeTrait.compares g.met.N.Ord.matches_eq _ _) ∙ c.if-eq.true in
@@ -72,13 +71,10 @@ returns-clause-joined g c =
     let K = keys g.N.NodeTrait.value g.N.NodeTrait.order in
     let p = c.args.p in
     let ks = keys_of c.args.self.now in
-    let ns = rows_of c.args.self.now in
     let w = c.write_link.ensures in
     let n = c.note.ensures in
     let same = sym (c.eq.ensures ∙ equal_alike g.N.NodeTrait.value g.N.NodeTrait.order g.met.N.NodeTrait.compares g.met.N.Ord.matches_eq _ _) ∙ c.if-eq.false in
     let m = c.note-2.ensures in
     ap (λ z. noded z (rows_of c.note-2.new.self)) m.keys
-    ∙ joined_two K ks p c.args.a c.args.b c.requires.within (n.keys ∙ w.keys) same _ _ _
-    (ap (λ z. noded z (rows_of c.note.new.self)) n.keys ∙ n.entered c.args.a ∙ ap (λ z. Rattle.model.specs.Maps.entered K c.args.a (Rattle.std.proofs.Common.get_or z (2 * p) c.args.a, Rattle.rows.specs.HalfEdges.side (2 * p)) (noded (keys_of c.write_link.new.self) (rows_of c.write_link.new.self))) (sym n.keys))
-    (m.entered c.args.a)
+    ∙ joined_two K ks p c.args.a c.args.b c.requires.within w.keys same n.keys _ _ _ (ap (λ z. noded z (rows_of c.note.new.self)) n.keys ∙ n.entered c.args.a) (m.entered c.args.a)
     ∙ ap (joined K c.args.a c.args.b) w.told

@@ -1,8 +1,8 @@
-use Rattle.std.proofs.Common.{◌≡◌, ◌<◌, [], ◌∷◌, ◌++◌, length, Some, Err, sym, ap, ◌∙◌, subst, arith}
+use Rattle.std.proofs.Common.{◌≡◌, ◌<◌, [], ◌∷◌, ◌++◌, length, Some, Err, sym, ap, ◌∙◌, arith}
 use Rattle.std.proofs.lemmas.List.{length_push}
 use Rattle.std.proofs.lemmas.Bool.{cond-true, lt-ltb}
 use Rattle.lists.specs.Positions.{position}
-use Rattle.table.specs.Content.{Content, Apart}
+use Rattle.table.specs.Content.{Content}
 use Rattle.table.specs.Tables.{sought}
 use Rattle.table.proofs.Apart.{apart_push}
 use Rattle.table.proofs.Seeks.{sought_vacant}

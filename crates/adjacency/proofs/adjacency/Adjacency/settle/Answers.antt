@@ -1,4 +1,4 @@
-use Rattle.std.proofs.Common.{◌≡◌, ◌+◌, ◌*◌, ◌<◌, ◌==◌, get_or, sym, ap, ◌∙◌, arith}
+use Rattle.std.proofs.Common.{◌+◌, ◌*◌, ◌<◌, ◌==◌, sym, ap, ◌∙◌, arith}
 use Rattle.keys.specs.Laws.{equal_alike}
 use Rattle.model.specs.Keys.{keys}
 use Rattle.model.specs.Lists.{bit}
@@ -6,7 +6,7 @@ use Rattle.halfedges.specs.Cells.{standing}
 use Rattle.halfedges.proofs.Counts.{bit_other}
 use Rattle.halfedges.proofs.Moves.{whole_last}
 use Rattle.adjacency.specs.Stages.{rows_of, keys_of}
-use Rattle.adjacency.proofs.Settled.{last_first, last_second, settled_one, settled_two}
+use Rattle.adjacency.proofs.Settled.{key_now, last_first, last_second, settled_one, settled_two}
 use Rattle.adjacency.proofs.adjacency.Adjacency.settle.Goals as goal
 
 pub returns-then-g-l-clause-whole : goal.returns-then-g-l-clause-whole
@@ -19,76 +19,45 @@ write_link-requires-clause-off g c = (c.requires.off c.key-first.result).out
 pub shift-requires-clause-held : goal.shift-requires-clause-held
 shift-requires-clause-held g c =
     let K = keys g.N.NodeTrait.value g.N.NodeTrait.order in
-    let ks = keys_of c.args.self.now in
-    let ns = rows_of c.args.self.now in
     let lt : c.args.g < c.args.l = omega (arith, c.if-g-l.false, c.requires.order) in
-    let first : (d : g.row.N.Denot) → c.key-first.result ≡ get_or ks (2 * c.args.l) d = λ d. c.key-first.ensures d ∙ ap (λ z. get_or (keys_of z) (2 * c.args.l) d) c.self.view_is in
-    let second : (d : g.row.N.Denot) → c.key-second.result ≡ get_or ks (2 * c.args.l + 1) d = λ d. c.key-second.ensures d ∙ ap (λ z. get_or (keys_of z) (2 * c.args.l + 1) d) c.self.view_is in
-    let off = c.requires.off in
-    let out = (off c.key-first.result).out in
-    let w = c.write_link.ensures in
-    ap (standing (2 * c.args.l)) w.rows ∙ last_first K off lt c.requires.within first second
+    let first = key_now c.self.view_is (2 * c.args.l) c.key-first.ensures in
+    let second = key_now c.self.view_is (2 * c.args.l + 1) c.key-second.ensures in
+    ap (standing (2 * c.args.l)) c.write_link.ensures.rows ∙ last_first K c.requires.off lt c.requires.within first second
 
 pub shift-requires-clause-fresh : goal.shift-requires-clause-fresh
-shift-requires-clause-fresh g c =
-    let K = keys g.N.NodeTrait.value g.N.NodeTrait.order in
-    let ks = keys_of c.args.self.now in
-    let ns = rows_of c.args.self.now in
-    let lt : c.args.g < c.args.l = omega (arith, c.if-g-l.false, c.requires.order) in
-    let first : (d : g.row.N.Denot) → c.key-first.result ≡ get_or ks (2 * c.args.l) d = λ d. c.key-first.ensures d ∙ ap (λ z. get_or (keys_of z) (2 * c.args.l) d) c.self.view_is in
-    let second : (d : g.row.N.Denot) → c.key-second.result ≡ get_or ks (2 * c.args.l + 1) d = λ d. c.key-second.ensures d ∙ ap (λ z. get_or (keys_of z) (2 * c.args.l + 1) d) c.self.view_is in
-    let off = c.requires.off in
-    let out = (off c.key-first.result).out in
-    let w = c.write_link.ensures in
-    ap (standing (2 * c.args.g)) w.rows ∙ out (2 * c.args.g) (omega arith)
+shift-requires-clause-fresh g c = ap (standing (2 * c.args.g)) c.write_link.ensures.rows ∙ (c.requires.off c.key-first.result).out (2 * c.args.g) (omega arith)
 
 pub returns-then-eq-clause-whole : goal.returns-then-eq-clause-whole
 returns-then-eq-clause-whole g c =
     let K = keys g.N.NodeTrait.value g.N.NodeTrait.order in
-    let ks = keys_of c.args.self.now in
-    let ns = rows_of c.args.self.now in
     let lt : c.args.g < c.args.l = omega (arith, c.if-g-l.false, c.requires.order) in
-    let first : (d : g.row.N.Denot) → c.key-first.result ≡ get_or ks (2 * c.args.l) d = λ d. c.key-first.ensures d ∙ ap (λ z. get_or (keys_of z) (2 * c.args.l) d) c.self.view_is in
-    let second : (d : g.row.N.Denot) → c.key-second.result ≡ get_or ks (2 * c.args.l + 1) d = λ d. c.key-second.ensures d ∙ ap (λ z. get_or (keys_of z) (2 * c.args.l + 1) d) c.self.view_is in
-    let off = c.requires.off in
-    let out = (off c.key-first.result).out in
+    let first = key_now c.self.view_is (2 * c.args.l) c.key-first.ensures in
+    let second = key_now c.self.view_is (2 * c.args.l + 1) c.key-second.ensures in
     let w = c.write_link.ensures in
     let same = sym (c.eq.ensures ∙ equal_alike g.N.NodeTrait.value g.N.NodeTrait.order g.met.N.NodeTrait.compares g.met.N.Ord.matches_eq _ _) ∙ c.if-eq.true in
-    settled_one K off lt c.requires.within first second (c.shift.ensures.keys ∙ w.keys) (λ x. standing x (rows_of c.shift.new.self)) (λ x. c.shift.ensures.standing x ∙ ap (λ z. standing x z + bit (x == 2 * c.args.g)) w.rows) same
+    settled_one K c.requires.off lt c.requires.within first second (c.shift.ensures.keys ∙ w.keys) (λ x. standing x (rows_of c.shift.new.self))
+    (λ x. c.shift.ensures.standing x ∙ ap (λ z. standing x z + bit (x == 2 * c.args.g)) w.rows) same
 
 pub shift-requires-2-clause-held : goal.shift-requires-2-clause-held
 shift-requires-2-clause-held g c =
     let K = keys g.N.NodeTrait.value g.N.NodeTrait.order in
-    let ks = keys_of c.args.self.now in
-    let ns = rows_of c.args.self.now in
     let lt : c.args.g < c.args.l = omega (arith, c.if-g-l.false, c.requires.order) in
-    let first : (d : g.row.N.Denot) → c.key-first.result ≡ get_or ks (2 * c.args.l) d = λ d. c.key-first.ensures d ∙ ap (λ z. get_or (keys_of z) (2 * c.args.l) d) c.self.view_is in
-    let second : (d : g.row.N.Denot) → c.key-second.result ≡ get_or ks (2 * c.args.l + 1) d = λ d. c.key-second.ensures d ∙ ap (λ z. get_or (keys_of z) (2 * c.args.l + 1) d) c.self.view_is in
-    let off = c.requires.off in
-    let out = (off c.key-first.result).out in
-    let w = c.write_link.ensures in
+    let first = key_now c.self.view_is (2 * c.args.l) c.key-first.ensures in
+    let second = key_now c.self.view_is (2 * c.args.l + 1) c.key-second.ensures in
     let same = sym (c.eq.ensures ∙ equal_alike g.N.NodeTrait.value g.N.NodeTrait.order g.met.N.NodeTrait.compares g.met.N.Ord.matches_eq _ _) ∙ c.if-eq.false in
     let x = 2 * c.args.l + 1 in
     let s = c.shift.ensures.standing x in
-    let z = ap (standing x) w.rows ∙ last_second K off lt c.requires.within first second same in
+    let z = ap (standing x) c.write_link.ensures.rows ∙ last_second K c.requires.off lt c.requires.within first second same in
     let u = bit_other x (2 * c.args.l) (λ e. omega arith) in
     let v = bit_other x (2 * c.args.g) (λ e. omega arith) in
     omega arith
 
 pub shift-requires-2-clause-fresh : goal.shift-requires-2-clause-fresh
 shift-requires-2-clause-fresh g c =
-    let K = keys g.N.NodeTrait.value g.N.NodeTrait.order in
-    let ks = keys_of c.args.self.now in
-    let ns = rows_of c.args.self.now in
     let lt : c.args.g < c.args.l = omega (arith, c.if-g-l.false, c.requires.order) in
-    let first : (d : g.row.N.Denot) → c.key-first.result ≡ get_or ks (2 * c.args.l) d = λ d. c.key-first.ensures d ∙ ap (λ z. get_or (keys_of z) (2 * c.args.l) d) c.self.view_is in
-    let second : (d : g.row.N.Denot) → c.key-second.result ≡ get_or ks (2 * c.args.l + 1) d = λ d. c.key-second.ensures d ∙ ap (λ z. get_or (keys_of z) (2 * c.args.l + 1) d) c.self.view_is in
-    let off = c.requires.off in
-    let out = (off c.key-first.result).out in
-    let w = c.write_link.ensures in
     let x = 2 * c.args.g + 1 in
     let s = c.shift.ensures.standing x in
-    let z = ap (standing x) w.rows ∙ out x (omega arith) in
+    let z = ap (standing x) c.write_link.ensures.rows ∙ (c.requires.off c.key-first.result).out x (omega arith) in
     let u = bit_other x (2 * c.args.l) (λ e. omega arith) in
     let v = bit_other x (2 * c.args.g) (λ e. omega arith) in
     omega arith
@@ -96,14 +65,11 @@ shift-requires-2-clause-fresh g c =
 pub returns-clause-whole : goal.returns-clause-whole
 returns-clause-whole g c =
     let K = keys g.N.NodeTrait.value g.N.NodeTrait.order in
-    let ks = keys_of c.args.self.now in
-    let ns = rows_of c.args.self.now in
     let lt : c.args.g < c.args.l = omega (arith, c.if-g-l.false, c.requires.order) in
-    let first : (d : g.row.N.Denot) → c.key-first.result ≡ get_or ks (2 * c.args.l) d = λ d. c.key-first.ensures d ∙ ap (λ z. get_or (keys_of z) (2 * c.args.l) d) c.self.view_is in
-    let second : (d : g.row.N.Denot) → c.key-second.result ≡ get_or ks (2 * c.args.l + 1) d = λ d. c.key-second.ensures d ∙ ap (λ z. get_or (keys_of z) (2 * c.args.l + 1) d) c.self.view_is in
-    let off = c.requires.off in
-    let out = (off c.key-first.result).out in
+    let first = key_now c.self.view_is (2 * c.args.l) c.key-first.ensures in
+    let second = key_now c.self.view_is (2 * c.args.l + 1) c.key-second.ensures in
     let w = c.write_link.ensures in
     let same = sym (c.eq.ensures ∙ equal_alike g.N.NodeTrait.value g.N.NodeTrait.order g.met.N.NodeTrait.compares g.met.N.Ord.matches_eq _ _) ∙ c.if-eq.false in
-    settled_two K off lt c.requires.within first second (c.shift-2.ensures.keys ∙ c.shift.ensures.keys ∙ w.keys) (λ x. standing x (rows_of c.shift.new.self)) (λ x. c.shift.ensures.standing x ∙ ap (λ z. standing x z + bit (x == 2 * c.args.g)) w.rows) same
+    settled_two K c.requires.off lt c.requires.within first second (c.shift-2.ensures.keys ∙ c.shift.ensures.keys ∙ w.keys) (λ x. standing x (rows_of c.shift.new.self))
+    (λ x. c.shift.ensures.standing x ∙ ap (λ z. standing x z + bit (x == 2 * c.args.g)) w.rows) same
     (λ x. standing x (rows_of c.shift-2.new.self)) c.shift-2.ensures.standing

@@ -1,4 +1,4 @@
-use Rattle.std.proofs.Common.{◌≡◌, ◌≤◌, length, sym, ap, ◌∙◌, subst, arith}
+use Rattle.std.proofs.Common.{◌≡◌, subst, ◌≤◌, sym, ap, ◌∙◌, arith}
 use Rattle.lists.specs.Swap.{swap_removed}
 use Rattle.rows.specs.HalfEdges.{twin}
 use Rattle.halfedges.specs.Cells.{count, row_at}
@@ -25,4 +25,5 @@ leave-requires-2-clause-held g c d =
     let still : row_at (rows_of c.leave.new.self) j d ≡ row_at (rows_of r) j d =
     ap (λ z. row_at z j d) (c.leave.ensures.rows d h.0 h.1 h.2)
     ∙ ap (λ n. n.1) (read_other d (rows_of r) i (omega (arith, rowed_length r.cells r.nodes.entries, c.requires.from)) (swap_removed (row_at (rows_of r) i d) h.0) j (λ e. c.if-i-j.false (sym e))) in
-    rw (c.twin_of.ensures, still) (c.requires.other c.if-i-j.false d)
+    subst (λ z. 1 ≤ count z (row_at (rows_of c.leave.new.self) j d)) (sym c.twin_of.ensures)
+    (subst (λ xs. 1 ≤ count (twin c.args.c) xs) (sym still) (c.requires.other c.if-i-j.false d))
