@@ -25,7 +25,7 @@ invariant_of-self g c =
     let l : p < length ls = found_within _ ls p at in
     let d₀ = some_of ls p l in
     let done = c.set_value.ensures.done ∙ ap (replaced_at ls p c.args.w) (slice_get-get_or ls p d₀ l) in
-    sound_reweighted m c.self.invariant p c.args.w d₀ c.set_value.new.self l (ap (λ z. z.1) done)
+    sound_reweighted c.self.invariant p c.args.w d₀ c.set_value.new.self l (ap (λ z. z.1) done)
 
 pub returns-in-Ok : goal.returns-in-Ok
 returns-in-Ok g c =

@@ -53,7 +53,7 @@ invariant_of-self g c =
     let off =
     search_absent K.value K.order g.met.N.NodeTrait.ordered g.N.NodeTrait.hashed m c.args.a c.args.b c.args.v
     (ap (λ z. link_search K.value K.order g.N.NodeTrait.hashed z c.args.a c.args.b) c.self.view_is ∙ c.requires.absent) in
-    sound_more m c.self.invariant c.args.a c.args.b c.args.w c.join.new.self c.append.new.self (omega (arith, room)) off added
+    sound_more c.self.invariant c.args.a c.args.b c.args.w c.join.new.self c.append.new.self (omega (arith, room)) off added
     (c.join.ensures.keys ∙ ap (λ z. wrote (keys_of m.rows) z c.args.a c.args.b) p)
     (λ d. subst (λ z. Whole K d (keys_of c.join.new.self) (z + 1) (rows_of c.join.new.self)) p (c.join.ensures.whole d))
 
