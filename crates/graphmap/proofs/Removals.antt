@@ -24,7 +24,7 @@ use Rattle.adjacency.proofs.Entries.{some_of}
 use Rattle.adjacency.proofs.Seating.{node_position}
 use Rattle.graphmap.specs.Parts.{Parts, Sound, state_of}
 use Rattle.graphmap.proofs.Kept.{sound_less}
-use Rattle.graphmap.proofs.Taking.{gone, not_gone}
+use Rattle.graphmap.proofs.TableCalls.{gone, not_gone}
 use Rattle.graphmap.proofs.Looking.{seat_of, looked_none, looked_some}
 
 module _ {N V E : Type 0} {value : N → V} {order : V → V → Ordering} {m : Parts N E} (s : Sound value order m) (t : Stage value order m.rows) (laws : Laws order) (a b : N) where
