@@ -1,5 +1,4 @@
-use Rattle.std.proofs.Common.{◌≡◌, ◌+◌, ◌*◌, ◌/◌, ◌<◌, min, [], ◌∷◌, ◌++◌, length, None, Ok, Err, sym, ap, ◌∙◌, subst, arith}
-use Rattle.std.proofs.lemmas.List.{length-map, length_push}
+use Rattle.std.proofs.Common.{◌≡◌, ◌+◌, ◌/◌, ◌<◌, min, [], ◌∷◌, ◌++◌, length, None, Ok, Err, sym, ap, ◌∙◌, subst, arith}
 use Rattle.std.proofs.lemmas.Bool.{cond-true, cond-false, lt-leb, le-ltb, lt-ltb}
 use Rattle.keys.specs.Laws.{equal_alike}
 use Rattle.keys.specs.declared.refusals.Refusal.TheVariants.{NodesFull}
