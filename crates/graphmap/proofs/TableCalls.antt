@@ -1,19 +1,16 @@
--- What the calls of a table tell, where there is such a place or there is room.
-use Rattle.std.proofs.Common.{◌≡◌, ℕ, ◌+◌, ◌-◌, ◌<◌, List, [], ◌∷◌, ◌++◌, length, get_or, set, Some, None, Option, ap, ◌∙◌, arith}
+-- What a table tells of an entry more where there is room, and of one less where there is such a place.
+use Rattle.std.proofs.Common.{◌≡◌, ℕ, ◌+◌, ◌-◌, ◌<◌, List, [], ◌∷◌, ◌++◌, length, get_or, Some, None, Option, ap, ◌∙◌, arith}
 use Rattle.std.proofs.lemmas.Bool.{cond-true, lt-ltb}
 use Rattle.std.proofs.lemmas.Option.{slice_get-get_or}
 use Rattle.lists.specs.Swap.{swap_removed}
 use Rattle.table.specs.declared.table.Taken.{Taken}
-use Rattle.table.specs.Tables.{appended, replaced, replaced_at, taken, taken_at}
+use Rattle.table.specs.Tables.{appended, taken, taken_at}
 use Rattle.adjacency.proofs.Entries.{some_of}
 
 pub added : {A B : Type 0} (es : List (A × B)) {es' : List (A × B)} (room : ℕ) (e : A × B) {o : Option ℕ} → (o, es') ≡ appended room es e → length es < room → es' ≡ es ++ e ∷ []
 added es room e h l = ap (λ z. z.1) (h ∙ cond-true _ _ _ (lt-ltb (length es) room l))
 
 module _ {A B : Type 0} (es : List (A × B)) (i : ℕ) {es' : List (A × B)} (l : i < length es) where
-  pub put : (v : B) {o : Option B} → (o, es') ≡ replaced es i v → (d : A × B) → (o ≡ Some (get_or es i d).1) × (es' ≡ set es i ((get_or es i d).0, v))
-  put v h d = let e = h ∙ ap (replaced_at es i v) (slice_get-get_or es i d l) in (ap (λ z. z.0) e, ap (λ z. z.1) e)
-
   pub gone : {t : Taken A B} → (Some t, es') ≡ taken es i → (d : A × B) → (t.entry ≡ get_or es i d) × (t.last + 1 ≡ length es) × (t.gap ≡ i) × (es' ≡ swap_removed es i)
   gone {t} h d =
       let e = h ∙ ap (taken_at es i) (slice_get-get_or es i d l) in

@@ -5,12 +5,11 @@ use Rattle.model.specs.Keys.{keys}
 use Rattle.model.specs.Maps.{canon, is_link}
 use Rattle.model.specs.Calls.{add_found, add_edge}
 use Rattle.model.proofs.Positions.{found_at, found_none, amended_at}
-use Rattle.adjacency.proofs.Entries.{some_of}
+use Rattle.adjacency.proofs.Entries.{some_of, value_put, value_old}
 use Rattle.adjacency.proofs.Seating.{found_vacant, found_ok}
 use Rattle.graphmap.specs.Parts.{Parts, link_search, state_of}
 use Rattle.graphmap.proofs.Keying.{link_sought, key_search}
 use Rattle.graphmap.proofs.Kept.{sound_reweighted}
-use Rattle.graphmap.proofs.TableCalls.{put}
 use Rattle.graphmap.proofs.map.GraphMap.add_edge.Goals as goal
 
 pub invariant_of-self : goal.invariant_of-self
@@ -23,7 +22,7 @@ invariant_of-self g c =
     sym (link_sought K m.kind c.args.a c.args.b ls _ c.edge_key.ensures) ∙ found_ok _ _ p (sym c.find.ensures ∙ c.in-Ok.is) in
     let l : p < length ls = found_within _ ls p at in
     let d₀ = some_of ls p l in
-    sound_reweighted c.self.invariant p c.args.w d₀ c.set_value.new.self l (put ls p l c.args.w c.set_value.ensures.done d₀).1
+    sound_reweighted c.self.invariant p c.args.w d₀ c.set_value.new.self l (value_put ls _ p c.args.w _ c.set_value.ensures.done l d₀)
 
 pub returns-in-Ok : goal.returns-in-Ok
 returns-in-Ok g c =
@@ -36,9 +35,9 @@ returns-in-Ok g c =
     sym (link_sought K m.kind c.args.a c.args.b ls _ c.edge_key.ensures) ∙ found_ok _ _ p (sym c.find.ensures ∙ c.in-Ok.is) in
     let l : p < length ls = found_within _ ls p at in
     let d₀ = some_of ls p l in
-    let done = put ls p l c.args.w c.set_value.ensures.done d₀ in
-    let links = done.1 ∙ sym (amended_at (is_link K κ) (λ x. (x.0, c.args.w)) ls p d₀ at) in
-    (λ i. (Ok (done.0 i), state_of (record { kind = m.kind; rows = m.rows; links = record { entries = links i; room = c.set_value.ensures.room i } })))
+    let old = value_old ls _ p c.args.w _ c.set_value.ensures.done l d₀ in
+    let links = value_put ls _ p c.args.w _ c.set_value.ensures.done l d₀ ∙ sym (amended_at (is_link K κ) (λ x. (x.0, c.args.w)) ls p d₀ at) in
+    (λ i. (Ok (old i), state_of (record { kind = m.kind; rows = m.rows; links = record { entries = links i; room = c.set_value.ensures.room i } })))
     ∙ sym (ap (λ f. add_found K f c.args.a c.args.b c.args.w (state_of m)) (found_at (is_link K κ) ls p d₀ at))
     ∙ ap (λ z. add_edge K c.args.a c.args.b c.args.w (state_of z)) c.self.view_is
 
