@@ -1,5 +1,5 @@
 -- The entries of the node table beside their rows.
-use Rattle.std.proofs.Common.{◌≡◌, ℕ, ◌<◌, List, [], ◌∷◌, length, get_or, set, Option, ap, ◌∙◌, arith}
+use Rattle.std.proofs.Common.{◌≡◌, ℕ, ◌<◌, List, [], ◌∷◌, length, get_or, set, Some, Option, ap, ◌∙◌, arith}
 use Rattle.std.proofs.lemmas.List.{get_or-map, length-map}
 use Rattle.std.proofs.lemmas.Option.{slice_get-get_or}
 use Rattle.table.specs.Tables.{replaced, replaced_at}
@@ -22,3 +22,7 @@ some_of (x ∷ xs) i l = x
 -- what a table says of another value at a place
 pub value_put : {A B : Type 0} (es es' : List (A × B)) (i : ℕ) (v : B) (o : Option B) → (o, es') ≡ replaced es i v → i < length es → (d : A × B) → es' ≡ set es i ((get_or es i d).0, v)
 value_put es es' i v o e l d = ap (λ z. z.1) e ∙ ap (λ z. (replaced_at es i v z).1) (slice_get-get_or es i d l)
+
+-- and of the old one
+pub value_old : {A B : Type 0} (es es' : List (A × B)) (i : ℕ) (v : B) (o : Option B) → (o, es') ≡ replaced es i v → i < length es → (d : A × B) → o ≡ Some (get_or es i d).1
+value_old es es' i v o e l d = ap (λ z. z.0) e ∙ ap (λ z. (replaced_at es i v z).0) (slice_get-get_or es i d l)

@@ -13,10 +13,11 @@ use Rattle.halfedges.specs.Cells.{wrote, moved, stands, Whole}
 use Rattle.halfedges.proofs.Moves.{keyed_moved}
 use Rattle.halfedges.proofs.Stands.{length_wrote}
 use Rattle.adjacency.specs.Stages.{NodeRows, rows_of, keys_of}
+use Rattle.adjacency.proofs.Entries.{some_of}
 use Rattle.graphmap.specs.Parts.{Parts, Sound}
 use Rattle.graphmap.proofs.Keying.{keyed_more, keyed_as, reweighted_length, keyed_reweighted}
 
-module _ {N V E : Type 0} {value : N → V} {order : V → V → Ordering} (m : Parts N E) (s : Sound value order m) where
+module _ {N V E : Type 0} {value : N → V} {order : V → V → Ordering} {m : Parts N E} (s : Sound value order m) where
   abbrev K : Keys N V
   K = keys value order
 
@@ -57,7 +58,7 @@ module _ {N V E : Type 0} {value : N → V} {order : V → V → Ordering} (m : 
       → Sound value order (record { kind = m.kind; rows = rows'; links = links' })
   sound_less g l rows' links' lg last less keys' whole =
       let n = ap length less ∙ length_swap_removed ls g in
-      let d₀ = (Rattle.adjacency.proofs.Entries.some_of ls g lg).0.0 in
+      let d₀ = (some_of ls g lg).0.0 in
       let q = ap length (keys' d₀) ∙ length_wrote d₀ ks g (get_or ks (2 * l + 1) d₀) (get_or ks (2 * l) d₀) in
       let long : 2 * l + 1 < length ks = omega (arith, last, s.fits) in
       let rest : l ≡ length links'.entries = omega (arith, n, last) in

@@ -1,7 +1,7 @@
+pub mod TableCalls
 pub mod Keying
 pub mod Wants
 pub mod Kept
-pub mod Taking
 pub mod Looking
 pub mod Removals
 pub mod Lists

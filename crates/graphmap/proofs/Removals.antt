@@ -1,29 +1,33 @@
 -- A link is taken out of a map: what the searches for its ends and its entry tell, and the lists then.
-use Rattle.std.proofs.Common.{◌≡◌, ℕ, ◌*◌, ◌/◌, ◌<◌, ◌≤◌, min, true, List, [], length, get_or, Some, None, Option, Ordering, sym, ap, ◌∙◌, subst, ⊎_elim, arith}
+use Rattle.std.proofs.Common.{◌≡◌, ℕ, ◌+◌, ◌*◌, ◌/◌, ◌<◌, ◌≤◌, min, true, List, [], length, get_or, Some, None, Option, Ordering, sym, ap, ◌∙◌, subst, ⊎_elim, arith}
 use Rattle.std.proofs.lemmas.Bool.{cases_eq}
 use Rattle.keys.specs.Order.{Laws}
 use Rattle.keys.specs.declared.kinds.Direction.TheVariants.{Outgoing}
 use Rattle.lists.specs.Positions.{position}
 use Rattle.lists.specs.Swap.{swap_removed}
-use Rattle.table.specs.Content.{Content}
+use Rattle.table.specs.Tables.{taken}
+use Rattle.table.specs.declared.table.Taken.{Taken}
 use Rattle.model.specs.Keys.{Keys, keys, eq}
 use Rattle.model.specs.Maps.{canon, is_node, is_link, hits, parted}
 use Rattle.model.specs.Calls.{remove_found, remove_edge}
 use Rattle.model.proofs.Positions.{found_at, found_none, without_at}
 use Rattle.rows.specs.Rings.{nth}
 use Rattle.rows.specs.HalfEdges.{twin}
-use Rattle.halfedges.specs.Cells.{count, noded, row_at, put_row, Off}
+use Rattle.halfedges.specs.Cells.{count, noded, row_at, put_row, moved, Whole, Off}
 use Rattle.halfedges.proofs.Counts.{count_holds}
 use Rattle.halfedges.proofs.Told.{entry}
 use Rattle.halfedges.proofs.Parting.{absent_outward, absent_inward, cell_place, parted_self, off_parted_self, twin_held, row_still, parted_both, off_parted_both}
+use Rattle.halfedges.proofs.Stands.{length_wrote}
 use Rattle.adjacency.specs.Stages.{NodeRows, rows_of, keys_of, Stage}
 use Rattle.adjacency.specs.Looks.{Looked, PartedTwice}
 use Rattle.adjacency.proofs.Entries.{some_of}
 use Rattle.adjacency.proofs.Seating.{node_position}
 use Rattle.graphmap.specs.Parts.{Parts, Sound, state_of}
+use Rattle.graphmap.proofs.Kept.{sound_less}
+use Rattle.graphmap.proofs.TableCalls.{gone, not_gone}
 use Rattle.graphmap.proofs.Looking.{seat_of, looked_none, looked_some}
 
-module _ {N V E : Type 0} {value : N → V} {order : V → V → Ordering} (m : Parts N E) (s : Sound value order m) (t : Stage value order m.rows) (laws : Laws order) (a b : N) where
+module _ {N V E : Type 0} {value : N → V} {order : V → V → Ordering} {m : Parts N E} (s : Sound value order m) (t : Stage value order m.rows) (laws : Laws order) (a b : N) where
   abbrev K : Keys N V
   K = keys value order
 
@@ -59,8 +63,8 @@ module _ {N V E : Type 0} {value : N → V} {order : V → V → Ordering} (m : 
       (absent_outward K laws a m.kind ks ls (s.keyed a) s.apart ns (t.owned a) (s.whole a) (seat a)
       (value a) (value b) (node_position K (value a) ks m.rows.cells m.rows.nodes.entries ∙ off))
 
-  pub second_absent : (i : ℕ) → place a ≡ Some i → place b ≡ None → (None, state_of m) ≡ remove_edge K a b (state_of m)
-  second_absent i is off =
+  pub second_absent : {i : ℕ} → place a ≡ Some i → place b ≡ None → (None, state_of m) ≡ remove_edge K a b (state_of m)
+  second_absent {i} is off =
       nothing_done
       (absent_inward K laws a m.kind ks ls (s.keyed a) s.apart ns (t.owned a) (s.whole a) (seat a)
       (value b) (value a)
@@ -71,7 +75,7 @@ module _ {N V E : Type 0} {value : N → V} {order : V → V → Ordering} (m : 
       (node_position K (value b) ks m.rows.cells m.rows.nodes.entries ∙ off))
 
   -- both ends are there
-  module _ (i j : ℕ) (is : place a ≡ Some i) (js : place b ≡ Some j) where
+  module _ {i j : ℕ} (is : place a ≡ Some i) (js : place b ≡ Some j) where
     pub entry_absent : Looked K a m.kind ks ns i j (value a) (value b) None → (None, state_of m) ≡ remove_edge K a b (state_of m)
     entry_absent look =
         nothing_done
@@ -79,7 +83,7 @@ module _ {N V E : Type 0} {value : N → V} {order : V → V → Ordering} (m : 
         (value a) (value b) i j (there a i is) (there b j js) look)
 
     -- and the cell of its entry
-    module _ (c : ℕ) (look : (d : N) → Looked K d m.kind ks ns i j (value a) (value b) (Some c)) where
+    module _ {c : ℕ} (look : (d : N) → Looked K d m.kind ks ns i j (value a) (value b) (Some c)) where
       is_some : (d : N) → (1 ≤ count c (row_at ns i d)) × (hits K m.kind (value b) Outgoing (entry d ks c) ≡ true)
       is_some d =
           looked_some K laws d m.kind ks ls (s.keyed d) s.apart ns (t.owned d) (s.whole d) (seat d)
@@ -99,8 +103,12 @@ module _ {N V E : Type 0} {value : N → V} {order : V → V → Ordering} (m : 
           twin_held K laws d m.kind ks ls (s.keyed d) s.apart ns (t.owned d) (s.whole d) (seat d)
           s.fits (value a) (value b) i j c (there a i is) (there b j js) (is_some d).0 (is_some d).1 h.0 h.1 h.2 ne
 
-      -- the rows ns' without the two cells
-      module _ (ns' : List (N × List ℕ))
+      -- so the links' table has it
+      pub not_taken : {es' : List ((N × N) × E)} → (None, es') ≡ taken ls (c / 2) → ⊥
+      not_taken e = not_gone ls (c / 2) entry_place.0 e
+
+      -- the rows ns' and the keys ks' without the two cells
+      module _ {ns' : List (N × List ℕ)} {ks' : List N} (keys' : ks' ≡ ks)
           (one : i ≡ j → (d : N) (l : ℕ) → l < length (row_at ns i d) → nth (row_at ns i d) l ≡ c → ns' ≡ put_row ns i d (swap_removed (row_at ns i d) l))
           (two : (i ≡ j → ⊥) → (d : N) (l : ℕ) → l < length (row_at ns i d) → nth (row_at ns i d) l ≡ c → PartedTwice d ns ns' i j c l) where
         severed : (d : N) → Off K d ks (c / 2) (length ls) ns' × (noded ks ns' ≡ parted K m.kind (value a) (value b) (noded ks ns))
@@ -128,18 +136,42 @@ module _ {N V E : Type 0} {value : N → V} {order : V → V → Ordering} (m : 
             ))
             (cases_eq i j)
 
-        pub severed_off : (ks' : List N) → ks' ≡ ks → (d : N) → Off K d ks' (c / 2) (length ls) ns'
-        severed_off ks' e d = subst (λ z. Off K d z (c / 2) (length ls) ns') (sym e) (severed d).0
+        -- and the links es' without the link, x
+        module _ {x : Taken (N × N) E} {es' : List ((N × N) × E)} (taken_is : (Some x, es') ≡ taken ls (c / 2)) where
+          gone_is : (d : (N × N) × E) → (x.entry ≡ get_or ls (c / 2) d) × (x.last + 1 ≡ length ls) × (x.gap ≡ c / 2) × (es' ≡ swap_removed ls (c / 2))
+          gone_is = gone ls (c / 2) entry_place.0 taken_is
 
-        -- what is answered, and the lists then
-        pub link_removed : (u : Option E) (ks' : List N) (rows' : NodeRows N) (links' : Content (N × N) E)
-            → ((x : (N × N) × E) → u ≡ Some (get_or ls (c / 2) x).1) → links'.entries ≡ swap_removed ls (c / 2)
-            → noded (keys_of rows') (rows_of rows') ≡ noded ks' ns' → ks' ≡ ks
-            → rows'.nodes.room ≡ m.rows.nodes.room → links'.room ≡ m.links.room → length (keys_of rows') ≡ length ks
-            → (u, state_of (record { kind = m.kind; rows = rows'; links = links' })) ≡ remove_edge K a b (state_of m)
-        link_removed u ks' rows' links' weight gone told keys' node_room link_room memory =
-            let l = some_of ls (c / 2) entry_place.0 in
-            let rows = told ∙ ap (λ z. noded z ns') keys' ∙ (severed a).1 in
-            let less = gone ∙ sym (without_at (is_link K (canon K m.kind (value a) (value b))) ls (c / 2) entry_place.1) in
-            (λ x. (weight l x, record { kind = m.kind; node_room = node_room x; link_room = min (link_room x) (memory x / 2); nodes = rows x; links = less x }))
-            ∙ sym (ap (λ x. remove_found K x a b (state_of m)) (found_at (is_link K (canon K m.kind (value a) (value b))) ls (c / 2) l entry_place.1))
+          some_link : (N × N) × E
+          some_link = some_of ls (c / 2) entry_place.0
+
+          pub gap_off : (d : N) → Off K d ks' x.gap (x.last + 1) ns'
+          gap_off d =
+              let h = gone_is some_link in
+              subst (λ z. Off K d z x.gap (x.last + 1) ns') (sym keys')
+              (subst (λ z. Off K d ks z (x.last + 1) ns') (sym h.2) (subst (λ z. Off K d ks (c / 2) z ns') (sym h.1) (severed d).0))
+
+          pub gap_below : x.gap ≤ x.last
+          gap_below = let h = gone_is some_link in omega (arith, entry_place.0, h.1, h.2)
+
+          pub last_within : 2 * x.last + 1 < length ks'
+          last_within = let h = gone_is some_link in omega (arith, h.1, s.fits, ap length keys')
+
+          -- the rows and the keys after the last link's cells have come to those of the link
+          module _ (rows' : NodeRows N) (moved_is : (d : N) → keys_of rows' ≡ moved ks' d x.gap x.last) where
+            pub sound_then : (room' : ℕ) → ((d : N) → Whole K d (keys_of rows') x.last (rows_of rows'))
+                → Sound value order (record { kind = m.kind; rows = rows'; links = record { entries = es'; room = room' } })
+            sound_then room' whole' =
+                let h = gone_is some_link in
+                sound_less s (c / 2) x.last rows' (record { entries = es'; room = room' }) entry_place.0 h.1 h.3
+                (λ d. moved_is d ∙ (λ y. moved (keys' y) d (h.2 y) x.last)) whole'
+
+            -- what is answered, and the lists
+            pub link_removed : {room' : ℕ} → noded (keys_of rows') (rows_of rows') ≡ noded ks' ns' → rows'.nodes.room ≡ m.rows.nodes.room → room' ≡ m.links.room
+                → (Some x.entry.1, state_of (record { kind = m.kind; rows = rows'; links = record { entries = es'; room = room' } })) ≡ remove_edge K a b (state_of m)
+            link_removed told node_room link_room =
+                let h = gone_is some_link in
+                let rows = told ∙ ap (λ z. noded z ns') keys' ∙ (severed a).1 in
+                let less = h.3 ∙ sym (without_at (is_link K (canon K m.kind (value a) (value b))) ls (c / 2) entry_place.1) in
+                let memory = ap length (moved_is a) ∙ length_wrote a ks' x.gap (get_or ks' (2 * x.last + 1) a) (get_or ks' (2 * x.last) a) ∙ ap length keys' in
+                (λ y. (Some (h.0 y).1, record { kind = m.kind; node_room = node_room y; link_room = min (link_room y) (memory y / 2); nodes = rows y; links = less y }))
+                ∙ sym (ap (λ f. remove_found K f a b (state_of m)) (found_at (is_link K (canon K m.kind (value a) (value b))) ls (c / 2) some_link entry_place.1))

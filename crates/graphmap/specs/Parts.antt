@@ -1,5 +1,5 @@
 -- The parts of a map: its kind, the nodes with their rows, and the table of links. What they stand for, and when they fit.
-use Rattle.std.specs.Prelude.{ℕ, ◌*◌, ◌/◌, ◌≤◌, min, List, length, Result}
+use Rattle.std.specs.Prelude.{ℕ, ◌*◌, ◌/◌, ◌≤◌, min, length, Result}
 use Rattle.std.specs.declared.cmp.Ordering.{Ordering}
 use Rattle.keys.specs.Hashes.{pair_hash}
 use Rattle.keys.specs.Nodes.{by_both}

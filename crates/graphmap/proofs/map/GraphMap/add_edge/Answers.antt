@@ -1,13 +1,11 @@
 use Rattle.std.proofs.Common.{◌≡◌, ◌<◌, length, Some, None, Ok, sym, ap, ◌∙◌}
-use Rattle.std.proofs.lemmas.Option.{slice_get-get_or}
 use Rattle.lists.specs.Positions.{position}
 use Rattle.lists.proofs.Positions.{found_within}
-use Rattle.table.specs.Tables.{replaced_at}
 use Rattle.model.specs.Keys.{keys}
 use Rattle.model.specs.Maps.{canon, is_link}
 use Rattle.model.specs.Calls.{add_found, add_edge}
 use Rattle.model.proofs.Positions.{found_at, found_none, amended_at}
-use Rattle.adjacency.proofs.Entries.{some_of}
+use Rattle.adjacency.proofs.Entries.{some_of, value_put, value_old}
 use Rattle.adjacency.proofs.Seating.{found_vacant, found_ok}
 use Rattle.graphmap.specs.Parts.{Parts, link_search, state_of}
 use Rattle.graphmap.proofs.Keying.{link_sought, key_search}
@@ -24,8 +22,7 @@ invariant_of-self g c =
     sym (link_sought K m.kind c.args.a c.args.b ls _ c.edge_key.ensures) ∙ found_ok _ _ p (sym c.find.ensures ∙ c.in-Ok.is) in
     let l : p < length ls = found_within _ ls p at in
     let d₀ = some_of ls p l in
-    let done = c.set_value.ensures.done ∙ ap (replaced_at ls p c.args.w) (slice_get-get_or ls p d₀ l) in
-    sound_reweighted m c.self.invariant p c.args.w d₀ c.set_value.new.self l (ap (λ z. z.1) done)
+    sound_reweighted c.self.invariant p c.args.w d₀ c.set_value.new.self l (value_put ls _ p c.args.w _ c.set_value.ensures.done l d₀)
 
 pub returns-in-Ok : goal.returns-in-Ok
 returns-in-Ok g c =
@@ -38,9 +35,9 @@ returns-in-Ok g c =
     sym (link_sought K m.kind c.args.a c.args.b ls _ c.edge_key.ensures) ∙ found_ok _ _ p (sym c.find.ensures ∙ c.in-Ok.is) in
     let l : p < length ls = found_within _ ls p at in
     let d₀ = some_of ls p l in
-    let done = c.set_value.ensures.done ∙ ap (replaced_at ls p c.args.w) (slice_get-get_or ls p d₀ l) in
-    let links = ap (λ z. z.1) done ∙ sym (amended_at (is_link K κ) (λ x. (x.0, c.args.w)) ls p d₀ at) in
-    (λ i. (Ok (done i).0, state_of (record { kind = m.kind; rows = m.rows; links = record { entries = links i; room = c.set_value.ensures.room i } })))
+    let old = value_old ls _ p c.args.w _ c.set_value.ensures.done l d₀ in
+    let links = value_put ls _ p c.args.w _ c.set_value.ensures.done l d₀ ∙ sym (amended_at (is_link K κ) (λ x. (x.0, c.args.w)) ls p d₀ at) in
+    (λ i. (Ok (old i), state_of (record { kind = m.kind; rows = m.rows; links = record { entries = links i; room = c.set_value.ensures.room i } })))
     ∙ sym (ap (λ f. add_found K f c.args.a c.args.b c.args.w (state_of m)) (found_at (is_link K κ) ls p d₀ at))
     ∙ ap (λ z. add_edge K c.args.a c.args.b c.args.w (state_of z)) c.self.view_is
 

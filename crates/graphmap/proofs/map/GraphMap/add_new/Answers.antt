@@ -1,5 +1,4 @@
-use Rattle.std.proofs.Common.{◌≡◌, ◌+◌, ◌*◌, ◌/◌, ◌<◌, min, [], ◌∷◌, ◌++◌, length, None, Ok, Err, sym, ap, ◌∙◌, subst, arith}
-use Rattle.std.proofs.lemmas.List.{length-map, length_push}
+use Rattle.std.proofs.Common.{◌≡◌, ◌+◌, ◌/◌, ◌<◌, min, [], ◌∷◌, ◌++◌, length, None, Ok, Err, sym, ap, ◌∙◌, subst, arith}
 use Rattle.std.proofs.lemmas.Bool.{cond-true, cond-false, lt-leb, le-ltb, lt-ltb}
 use Rattle.keys.specs.Laws.{equal_alike}
 use Rattle.keys.specs.declared.refusals.Refusal.TheVariants.{NodesFull}
@@ -10,11 +9,11 @@ use Rattle.halfedges.specs.Cells.{noded, wrote, Whole}
 use Rattle.halfedges.proofs.Rows.{length_noded}
 use Rattle.halfedges.proofs.Stands.{length_wrote}
 use Rattle.adjacency.specs.Stages.{rows_of, keys_of}
-use Rattle.adjacency.specs.Seats.{lacking_of}
 use Rattle.adjacency.proofs.Entries.{rowed_length}
 use Rattle.graphmap.specs.Parts.{Parts, link_search, state_of}
 use Rattle.graphmap.proofs.Keying.{key_search, search_absent}
 use Rattle.graphmap.proofs.Kept.{sound_more}
+use Rattle.graphmap.proofs.TableCalls.{added}
 use Rattle.graphmap.proofs.Wants.{lacking_wanted}
 use Rattle.graphmap.proofs.map.GraphMap.add_new.Goals as goal
 
@@ -26,8 +25,8 @@ returns-then-room-len g c =
     let b = c.args.b in
     let ns = noded (keys_of m.rows) (rows_of m.rows) in
     let free = lt-leb (min m.links.room (length (keys_of m.rows) / 2)) (length m.links.entries) (omega (arith, c.len-p.ensures, c.capacity.ensures, c.link_room.ensures)) in
-    let more = c.lacking-more.ensures ∙ ap (lacking_of c.find-first.result c.find-second.result) (c.eq.ensures ∙ equal_alike g.N.NodeTrait.value g.N.NodeTrait.order g.met.N.NodeTrait.compares g.met.N.Ord.matches_eq _ _)
-    ∙ lacking_wanted K a b _ _ _ _ m.rows c.find-first.ensures.found c.find-second.ensures.found in
+    let more = c.lacking-more.ensures
+    ∙ lacking_wanted K a b _ _ m.rows c.find-first.ensures.found c.find-second.ensures.found (c.eq.ensures ∙ equal_alike g.N.NodeTrait.value g.N.NodeTrait.order g.met.N.NodeTrait.compares g.met.N.Ord.matches_eq _ _) in
     let full = lt-ltb m.rows.nodes.room (length ns + wanted K a b ns) (omega (arith, c.len.ensures, c.room.ensures, length_noded (keys_of m.rows) (rows_of m.rows), rowed_length m.rows.cells m.rows.nodes.entries)) in
     subst (λ z. (Err NodesFull, state_of z) ≡ add_new K a b c.args.w (state_of z)) c.self.view_is (sym (cond-false _ _ _ free ∙ cond-true _ _ _ full))
 
@@ -48,12 +47,11 @@ invariant_of-self g c =
     let ls = m.links.entries in
     let p = c.len-p.ensures in
     let room : length ls < min m.links.room (length (keys_of m.rows) / 2) = omega (arith, p, c.capacity.ensures, c.link_room.ensures) in
-    let done = c.append.ensures.done ∙ cond-true _ _ _ (lt-ltb (length ls) m.links.room (omega arith)) in
-    let added : c.append.new.self.entries ≡ ls ++ (edge_key K m.kind c.args.a c.args.b, c.args.w) ∷ [] = ap (λ z. z.1) done ∙ ap (λ q. ls ++ (q, c.args.w) ∷ []) c.edge_key.ensures in
+    let more_links : c.append.new.self.entries ≡ ls ++ (edge_key K m.kind c.args.a c.args.b, c.args.w) ∷ [] = added ls m.links.room _ c.append.ensures.done (omega (arith, room)) ∙ ap (λ q. ls ++ (q, c.args.w) ∷ []) c.edge_key.ensures in
     let off =
     search_absent K.value K.order g.met.N.NodeTrait.ordered g.N.NodeTrait.hashed m c.args.a c.args.b c.args.v
     (ap (λ z. link_search K.value K.order g.N.NodeTrait.hashed z c.args.a c.args.b) c.self.view_is ∙ c.requires.absent) in
-    sound_more m c.self.invariant c.args.a c.args.b c.args.w c.join.new.self c.append.new.self (omega (arith, room)) off added
+    sound_more c.self.invariant c.args.a c.args.b c.args.w c.join.new.self c.append.new.self (omega (arith, room)) off more_links
     (c.join.ensures.keys ∙ ap (λ z. wrote (keys_of m.rows) z c.args.a c.args.b) p)
     (λ d. subst (λ z. Whole K d (keys_of c.join.new.self) (z + 1) (rows_of c.join.new.self)) p (c.join.ensures.whole d))
 
@@ -71,12 +69,11 @@ returns g c =
     let p = c.len-p.ensures in
     let room : length ls < min m.links.room (length ks / 2) = omega (arith, p, c.capacity.ensures, c.link_room.ensures) in
     let free = lt-leb (min m.links.room (length ks / 2)) (length ls) room in
-    let more = c.lacking-more.ensures ∙ ap (lacking_of c.find-first.result c.find-second.result) (c.eq.ensures ∙ equal_alike g.N.NodeTrait.value g.N.NodeTrait.order g.met.N.NodeTrait.compares g.met.N.Ord.matches_eq _ _)
-    ∙ lacking_wanted K a b _ _ _ _ m.rows c.find-first.ensures.found c.find-second.ensures.found in
+    let more = c.lacking-more.ensures
+    ∙ lacking_wanted K a b _ _ m.rows c.find-first.ensures.found c.find-second.ensures.found (c.eq.ensures ∙ equal_alike g.N.NodeTrait.value g.N.NodeTrait.order g.met.N.NodeTrait.compares g.met.N.Ord.matches_eq _ _) in
     let has = le-ltb m.rows.nodes.room (length ns + wanted K a b ns) (omega (arith, c.len.ensures, c.room.ensures, c.find-first.ensures.stage.fits, length_noded ks (rows_of m.rows), rowed_length m.rows.cells m.rows.nodes.entries)) in
-    let done = c.append.ensures.done ∙ cond-true _ _ _ (lt-ltb (length ls) m.links.room (omega arith)) in
-    let added : c.append.new.self.entries ≡ ls ++ (edge_key K m.kind a b, w) ∷ [] = ap (λ z. z.1) done ∙ ap (λ q. ls ++ (q, w) ∷ []) c.edge_key.ensures in
+    let more_links : c.append.new.self.entries ≡ ls ++ (edge_key K m.kind a b, w) ∷ [] = added ls m.links.room _ c.append.ensures.done (omega (arith, room)) ∙ ap (λ q. ls ++ (q, w) ∷ []) c.edge_key.ensures in
     let same : length (keys_of c.join.new.self) ≡ length ks = ap length j.keys ∙ length_wrote a ks c.len-p.result a b in
-    (λ i. (Ok None, record { kind = m.kind; node_room = j.room i; link_room = min (c.append.ensures.room i) (same i / 2); nodes = j.joined i; links = added i }))
+    (λ i. (Ok None, record { kind = m.kind; node_room = j.room i; link_room = min (c.append.ensures.room i) (same i / 2); nodes = j.joined i; links = more_links i }))
     ∙ sym (cond-false _ _ _ free ∙ cond-false _ _ _ has)
     ∙ ap (λ z. add_new K a b w (state_of z)) c.self.view_is
