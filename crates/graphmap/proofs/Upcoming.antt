@@ -1,5 +1,7 @@
 -- The cells that are to come of a walk, over any memory, and of a walk from the start of a row.
 use Rattle.std.proofs.Common.{◌≡◌, ℕ, zero, suc, ◌<◌, ◌≤◌, true, ltb, List, [], ◌∷◌, map, length, get_or, Some, None, Option, sym, refl, ap, ◌∙◌, subst, ⊎_elim, arith}
+use Rattle.std.specs.List.{slice_get}
+use Rattle.std.proofs.lemmas.List.{length-map}
 use Rattle.std.proofs.lemmas.Bool.{cases_lt, cases_eq, lt-ltb, le-ltb, cond-true, cond-false}
 use Rattle.keys.specs.declared.kinds.Direction.{Direction}
 use Rattle.keys.specs.declared.kinds.Direction.TheVariants.{Outgoing}
@@ -19,7 +21,7 @@ use Rattle.halfedges.specs.Cells.{count}
 use Rattle.halfedges.proofs.Counts.{bit_is, bit_other}
 use Rattle.halfedges.proofs.Told.{entry}
 use Rattle.graphmap.specs.Walks.{first_by, key_of}
-use Rattle.graphmap.proofs.Lists.{kept_map, kept_all, map_map, count_kept}
+use Rattle.graphmap.proofs.Lists.{kept_map, kept_all, map_map, count_kept, count_place}
 use Rattle.graphmap.proofs.NodeRows.{told_row}
 
 -- the first of a list, by what a step gave
@@ -41,7 +43,7 @@ module _ {X Y : Type 0} (f : X → Option Y) where
       let z : ◌≡◌ {A = ℕ} 0 1 = cc in
       absurd (omega arith)
 
-pub first_count : (xs ys : List ℕ) (r : Option ℕ) (c : ℕ) → ◌≡◌ {A = Option ℕ × List ℕ} (r, ys) (first_of xs) → r ≡ Some c → 1 ≤ count c xs
+first_count : (xs ys : List ℕ) (r : Option ℕ) (c : ℕ) → ◌≡◌ {A = Option ℕ × List ℕ} (r, ys) (first_of xs) → r ≡ Some c → 1 ≤ count c xs
 first_count [] ys r c e q =
     let p = ap (λ (z : Option ℕ × List ℕ). z.0) e in
     let z : ◌≡◌ {A = ℕ} 0 1 = cc in
@@ -68,8 +70,15 @@ module _ {N : Type 0} (mem : List (Cell N)) where
 
 module _ {N V : Type 0} (K : Keys N V) (e : N) (mem : List (Cell N)) (kind : Kind) (d : Direction) (v : V) where
   -- what is to come is in the memory
-  pub upcoming_within : (w : Walk) (c : ℕ) → 1 ≤ count c (upcoming K e mem kind d v w) → c < length mem
-  upcoming_within w c h = walked_within mem w.at w.left c (count_kept (showing K e mem kind d v) (walked mem w.at w.left) c h).0
+  upcoming_within : (w : Walk) (c : ℕ) → 1 ≤ count c (upcoming K e mem kind d v w) → c < length (cell_keys mem)
+  upcoming_within w c h =
+      omega (arith, length-map mem (λ x. x.key), walked_within mem w.at w.left c (count_kept (showing K e mem kind d v) (walked mem w.at w.left) c h).0)
+
+  pub place_within : (w : Walk) (k : ℕ) (r : Option ℕ) (c : ℕ) → r ≡ slice_get (upcoming K e mem kind d v w) k → r ≡ Some c → c < length (cell_keys mem)
+  place_within w k r c at is = upcoming_within w c (count_place (upcoming K e mem kind d v w) k c (sym is ∙ at))
+
+  pub first_within : (w : Walk) (ys : List ℕ) (r : Option ℕ) (c : ℕ) → ◌≡◌ {A = Option ℕ × List ℕ} (r, ys) (first_of (upcoming K e mem kind d v w)) → r ≡ Some c → c < length (cell_keys mem)
+  first_within w ys r c at is = upcoming_within w c (first_count (upcoming K e mem kind d v w) ys r c at is)
 
   module _ (h : RowHead) (linked : Linked mem h) where
     -- from the start of a row all its cells that are shown are to come

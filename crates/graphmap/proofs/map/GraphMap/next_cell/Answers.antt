@@ -1,7 +1,6 @@
-use Rattle.std.proofs.Common.{refl, arith}
-use Rattle.std.proofs.lemmas.List.{length-map}
+use Rattle.std.proofs.Common.{refl}
 use Rattle.model.specs.Keys.{keys}
-use Rattle.graphmap.proofs.Upcoming.{upcoming_within, first_count}
+use Rattle.graphmap.proofs.Upcoming.{first_within}
 use Rattle.graphmap.proofs.map.GraphMap.next_cell.Goals as goal
 
 pub returns : goal.returns
@@ -12,11 +11,5 @@ returns g c =
     rw (← c.self.view_is) (record {
       origin = refl;
       next = c.advance.ensures;
-      within = λ x is.
-          omega (
-            arith,
-            length-map m.adjacency.cells (λ y. y.key),
-            upcoming_within K w.start m.adjacency.cells m.kind w.direction (K.value w.start) w.walk x
-                (first_count _ _ c.advance.result x (c.advance.ensures w.start) is),
-          );
+      within = λ x is. first_within K w.start m.adjacency.cells m.kind w.direction (K.value w.start) w.walk _ c.advance.result x (c.advance.ensures w.start) is;
     })
