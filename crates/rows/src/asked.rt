@@ -4,7 +4,7 @@ ghost use Rattle.model.specs.Maps.{agree, hits};
 ghost use Rattle.model.specs.Questions.{shown};
 ghost use Rattle.rows.specs.HalfEdges.{side};
 
-use crate::sides::side_of;
+use crate::sides::{agrees, side_of};
 use keys::kinds::{Direction, Kind};
 use keys::nodes::NodeTrait;
 
@@ -17,14 +17,11 @@ pub struct Asked<N> {
 }
 
 impl<N: NodeTrait> Asked<N> {
-    /// Whether the entry of the cell `x` has the direction, or any is meant.
-    pub fn agrees(&self, x: u32) -> bool
+    // Whether the entry of the cell `x` has the direction, or any is meant.
+    fn agrees(&self, x: u32) -> bool
         ensures { result ≡ agree self.now.kind (side x) self.now.direction }
     {
-        match self.kind {
-            Kind::Directed => side_of(x) == self.direction,
-            Kind::Undirected => true,
-        }
+        agrees(self.kind, side_of(x), self.direction)
     }
 
     // Whether the cell `x` of the key `key` names the node in the direction.
