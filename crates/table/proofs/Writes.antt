@@ -1,5 +1,6 @@
 -- A write to a holder, and what it leaves of the chains.
-use Rattle.std.proofs.Common.{◌≡◌, ℕ, ◌*◌, ◌<◌, ◌≤◌, min, eqb, List, length, set, sym, refl, ap, ◌∙◌, inl, inr, arith}
+use Rattle.std.proofs.Common.{◌≡◌, ℕ, ◌*◌, ◌<◌, ◌≤◌, min, eqb, List, [], ◌∷◌, length, get_or, set, sym, refl, ap, ◌∙◌, inl, inr, arith}
+use Rattle.std.proofs.lemmas.List.{length-map, length-set}
 use Rattle.lists.specs.Chains.{Above, Put, Chains}
 use Rattle.table.specs.declared.slot.Slot.{Slot}
 use Rattle.table.specs.Slots.{pairs, at, two, none, TwoSet}
@@ -31,6 +32,24 @@ put_link n b p v fs fs' ns ns' pn lt ef en = record {
 
 pub same_capacity : {A B : Type 0} (xs : List A) (ys : List B) → length ys ≡ length xs → capacity_of ys ≡ capacity_of xs
 same_capacity xs ys e = ap (λ n. min n 65535) e
+
+-- a memory has as many slots as entries
+pub as_long : {K V : Type 0} (xs ys : List (Slot K V)) → pairs ys ≡ pairs xs → length ys ≡ length xs
+as_long xs ys e = sym (length-map ys _) ∙ (ap length e ∙ length-map xs _)
+
+-- and keeps them where an entry is written
+pub as_long_set : {K V : Type 0} (xs ys : List (Slot K V)) (i : ℕ) (e : K × V) → pairs ys ≡ set (pairs xs) i e → length ys ≡ length xs
+as_long_set xs ys i e is = sym (length-map ys _) ∙ (ap length is ∙ (length-set (pairs xs) i e ∙ length-map xs _))
+
+-- or copied from place l
+pub as_long_copied : {K V : Type 0} (xs ys : List (Slot K V)) (i l : ℕ) → l < length xs
+    → ((d : K × V) → pairs ys ≡ set (pairs xs) i (get_or (pairs xs) l d)) → length ys ≡ length xs
+as_long_copied [] ys i l lt is = omega arith
+as_long_copied (x ∷ xs) ys i l lt is = as_long_set (x ∷ xs) ys i _ (is (x.key, x.value))
+
+-- and so keeps its capacity
+pub same_room : {K V : Type 0} (xs ys : List (Slot K V)) → pairs ys ≡ pairs xs → capacity_of ys ≡ capacity_of xs
+same_room xs ys e = same_capacity xs ys (as_long xs ys e)
 
 pub off_here : (buckets g : ℕ) (h : ℕ → ℕ) → off buckets g h g ≡ buckets
 off_here buckets g h = cond-true (eqb g g) _ _ (eq-eqb g g refl)
@@ -72,16 +91,16 @@ pub put_after : (n b p v : ℕ) (fs fs₀ : List (List ℕ)) (x f' x' : ℕ → 
 put_after n b p v fs fs₀ x f' x' e P = rw (sym e) P
 
 -- the same entries hang in the same buckets
-pub same_bucket : {K V : Type 0} (hashed : K → ℕ) (xs ys : List (Slot K V)) → pairs ys ≡ pairs xs → length ys ≡ length xs
-    → (i : ℕ) → bucket_of hashed ys i ≡ bucket_of hashed xs i
-same_bucket hashed xs ys e n i =
-    ap (λ z. at (homes hashed z (pairs ys)) i) (same_capacity xs ys n) ∙ ap (λ z. at (homes hashed (capacity_of xs) z) i) e
+pub same_bucket : {K V : Type 0} (hashed : K → ℕ) (xs ys : List (Slot K V)) → pairs ys ≡ pairs xs → (i : ℕ)
+    → bucket_of hashed ys i ≡ bucket_of hashed xs i
+same_bucket hashed xs ys e i =
+    ap (λ z. at (homes hashed z (pairs ys)) i) (same_room xs ys e) ∙ ap (λ z. at (homes hashed (capacity_of xs) z) i) e
 
-pub still_in_bucket : {K V : Type 0} (hashed : K → ℕ) (xs ys : List (Slot K V)) (i b : ℕ) → pairs ys ≡ pairs xs → length ys ≡ length xs
+pub still_in_bucket : {K V : Type 0} (hashed : K → ℕ) (xs ys : List (Slot K V)) (i b : ℕ) → pairs ys ≡ pairs xs
     → InBucket hashed xs i b → InBucket hashed ys i b
-still_in_bucket hashed xs ys i b e n B = record {
-  below = omega (arith, B.below, same_capacity xs ys n);
-  home = same_bucket hashed xs ys e n i ∙ B.home;
+still_in_bucket hashed xs ys i b e B = record {
+  below = omega (arith, B.below, same_room xs ys e);
+  home = same_bucket hashed xs ys e i ∙ B.home;
 }
 
 -- the same chains, from links that are equal as lists

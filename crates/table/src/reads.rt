@@ -1,8 +1,8 @@
 ghost use Rattle.std.specs.Prelude.{◌≡◌, ◌<◌, length, slice_index_or};
+ghost use Rattle.std.specs.List.{slice_get};
 ghost use Rattle.table.specs.Slots.{pairs};
 
-use crate::index::capacity_of;
-use crate::slot::{Slot, key_of, value_of};
+use crate::slot::Slot;
 use crate::table::Table;
 use keys::nodes::NodeTrait;
 
@@ -18,14 +18,22 @@ impl<'a, K: NodeTrait, V: Copy> Table<'a, K, V> {
     pub fn capacity(&self) -> usize
         ensures { result ≡ self.now.room }
     {
-        capacity_of(self.slots)
+        self.memory.capacity()
     }
 
     /// The slots of the entries, by place.
     pub fn as_slice(&self) -> &[Slot<K, V>]
         ensures { pairs result.now ≡ self.now.entries }
     {
-        &self.slots[..self.len]
+        self.memory.first(self.len)
+    }
+
+    // The entry at a place. None where there is no such place.
+    pub(crate) fn entry(&self, i: usize) -> Option<(K, V)>
+        ensures { result ≡ slice_get self.now.entries i }
+    {
+        let slot = self.as_slice().get(i)?;
+        Some((slot.key, slot.value))
     }
 
     /// The key at a place.
@@ -33,7 +41,7 @@ impl<'a, K: NodeTrait, V: Copy> Table<'a, K, V> {
         requires place { i < length self.now.entries }
         ensures { (d : K × V) → result ≡ (slice_index_or self.now.entries i d).0 }
     {
-        key_of(self.slots, i)
+        self.memory.key_of(i)
     }
 
     /// The value at a place.
@@ -41,6 +49,6 @@ impl<'a, K: NodeTrait, V: Copy> Table<'a, K, V> {
         requires place { i < length self.now.entries }
         ensures { (d : K × V) → result ≡ (slice_index_or self.now.entries i d).1 }
     {
-        value_of(self.slots, i)
+        self.memory.value_of(i)
     }
 }
