@@ -1,6 +1,8 @@
 -- The entries of a table, in the slots that hold them.
-use Rattle.std.proofs.Common.{◌≡◌, ℕ, ◌+◌, ◌*◌, ◌<◌, ◌≤◌, List, [], ◌∷◌, ◌++◌, length, get_or, take, set, sym, ap, ◌∙◌, arith}
+use Rattle.std.proofs.Common.{◌≡◌, ℕ, ◌+◌, ◌<◌, ◌≤◌, List, [], ◌∷◌, ◌++◌, length, get_or, take, set, Some, option_map, sym, refl, ap, ◌∙◌, arith}
 use Rattle.std.proofs.lemmas.List.{length-take-le, length-map, get_or-take, take_more_set}
+use Rattle.std.proofs.lemmas.Option.{slice_get-map, slice_get_read}
+use Rattle.std.specs.List.{slice_get}
 use Rattle.lists.proofs.Chains.{emptied}
 use Rattle.table.specs.declared.slot.Slot.{Slot}
 use Rattle.table.specs.Slots.{pairs, none}
@@ -29,6 +31,14 @@ module _ {K V : Type 0} {hashed : K → ℕ} {xs : List (Slot K V)} {len : ℕ} 
   pub key_of_entry : (i : ℕ) (k : K) (d : K × V) → i < len → ((e : K × V) → k ≡ (get_or (pairs xs) i e).0)
       → (get_or (take len (pairs xs)) i d).0 ≡ k
   key_of_entry i k d lt is = ap (λ (z : K × V). z.0) (entry_at i d lt) ∙ sym (is d)
+
+-- the entry of the slot at a place of the slots of es
+pub slot_entry : {K V : Type 0} (xs : List (Slot K V)) (es : List (K × V)) → pairs xs ≡ es → (i : ℕ) (s : Slot K V) → i < length xs
+    → s ≡ get_or xs i s → slice_get es i ≡ Some (s.key, s.value)
+slot_entry {K} {V} xs es e i s lt is =
+    ap (λ z. slice_get z i) (sym e)
+    ∙ (slice_get-map (λ (z : Slot K V). (z.key, z.value)) xs i
+    ∙ ap (option_map (λ (z : Slot K V). (z.key, z.value))) (slice_get_read xs (length xs) i s refl lt is))
 
 -- a table with no entries, over slots whose buckets are empty
 pub sound_empty : {K V W : Type 0} {value : K → W} {hashed : K → ℕ} {xs : List (Slot K V)}

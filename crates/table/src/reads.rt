@@ -1,5 +1,4 @@
 ghost use Rattle.std.specs.Prelude.{◌≡◌, ◌<◌, length, slice_index_or};
-ghost use Rattle.std.specs.List.{slice_get};
 ghost use Rattle.table.specs.Slots.{pairs};
 
 use crate::slot::Slot;
@@ -26,14 +25,6 @@ impl<'a, K: NodeTrait, V: Copy> Table<'a, K, V> {
         ensures { pairs result.now ≡ self.now.entries }
     {
         self.memory.first(self.len)
-    }
-
-    // The entry at a place. None where there is no such place.
-    pub(crate) fn entry(&self, i: usize) -> Option<(K, V)>
-        ensures { result ≡ slice_get self.now.entries i }
-    {
-        let slot = self.as_slice().get(i)?;
-        Some((slot.key, slot.value))
     }
 
     /// The key at a place.

@@ -68,7 +68,8 @@ impl<'a, K: NodeTrait, V: Copy> Table<'a, K, V> {
         ensures done { (result, self.new.entries) ≡ replaced self.old.entries i v }
         ensures room { self.new.room ≡ self.old.room }
     {
-        let (k, old) = self.entry(i)?;
+        let slot = self.as_slice().get(i)?;
+        let (k, old) = (slot.key, slot.value);
         self.memory.set_pair(i, k, v);
         Some(old)
     }
@@ -95,9 +96,13 @@ impl<'a, K: NodeTrait, V: Copy> Table<'a, K, V> {
         ensures done { (result, self.new.entries) ≡ taken self.old.entries i }
         ensures room { self.new.room ≡ self.old.room }
     {
-        let entry = self.entry(i)?;
-        let last = self.len - 1;
-        self.memory.extract(self.len, i);
+        let len = self.len;
+        if i >= len {
+            return None;
+        }
+        let entry = (self.key_at(i), self.value_at(i));
+        let last = len - 1;
+        self.memory.extract(len, i);
         self.len = last;
         Some(Taken {
             entry,

@@ -1,4 +1,4 @@
-use Rattle.std.proofs.Common.{◌≡◌, ◌*◌, length, refl, arith}
+use Rattle.std.proofs.Common.{◌*◌, refl, arith}
 use Rattle.lists.proofs.Chains.{unlinked}
 use Rattle.table.specs.Slots.{pairs, headed, nexts, at, two, none}
 use Rattle.table.specs.Index.{bucket_of, capacity_of, off}
