@@ -24,6 +24,10 @@ module _ {K V : Type 0} {hashed : K → ℕ} {xs : List (Slot K V)} {len : ℕ} 
   pub length_seen : {C : Content K V} → content len xs ≡ C → length C.entries ≡ len
   length_seen seen = sym (ap (λ z. length z.entries) seen) ∙ length_entries
 
+  -- a place of those entries
+  pub seen_place : {C : Content K V} → content len xs ≡ C → (i : ℕ) → i < length C.entries → (i < len) × (i < length xs)
+  seen_place seen i lt = (omega (arith, length_seen seen), omega (arith, length_seen seen, in_memory))
+
   pub entry_at : (i : ℕ) (d : K × V) → i < len → get_or (take len (pairs xs)) i d ≡ get_or (pairs xs) i d
   entry_at i d lt = get_or-take len (pairs xs) i d lt
 

@@ -29,6 +29,7 @@ impl<K, V> Slot<K, V> {
         }
     }
 
+    // The two writes are methods of a slot, as a proof does not learn the length of an array in a slice's element.
     pub(crate) fn set_head(&mut self, side: usize, v: u16)
         requires { side < 2 }
         ensures here { at self.new.heads side ≡ v }

@@ -7,19 +7,18 @@ use Rattle.lists.proofs.Chains.{pushed}
 use Rattle.table.specs.declared.table.Vacancy.{Vacancy}
 use Rattle.table.specs.Slots.{pairs, headed, marked, nexts, at, two, none}
 use Rattle.table.specs.Index.{capacity_of, homes, tags, bit_of}
-use Rattle.table.proofs.Capacity.{within_memory, within_links, bucket_slot}
+use Rattle.table.proofs.Capacity.{within_memory, within_links}
 use Rattle.table.proofs.Lists.{at_set, at_other}
 use Rattle.table.proofs.Marks.{marks_pushed}
 use Rattle.table.proofs.Moves.{written_home, other_home, written_tag, other_tag}
-use Rattle.table.proofs.Writes.{as_long, as_long_set, same_capacity, settled, two_same}
+use Rattle.table.proofs.Writes.{as_long_set, slot_kept, same_capacity, settled, two_same}
 use Rattle.table.proofs.memory.Memory.enter.Goals as goal
 
 pub set_pair-requires : goal.set_pair-requires
 set_pair-requires g c = omega (arith, c.requires.room, within_memory c.args.self.now)
 
 pub head_of-head-requires : goal.head_of-head-requires
-head_of-head-requires g c =
-    omega (arith, bucket_slot c.args.self.now c.args.w.home c.requires.bucket, as_long_set _ _ _ _ c.set_pair.ensures.pair)
+head_of-head-requires g c = slot_kept c.args.self.now _ _ _ c.args.w.home c.set_pair.ensures.pair c.requires.bucket
 
 pub set_next-requires : goal.set_next-requires
 set_next-requires g c = record {
@@ -29,30 +28,17 @@ set_next-requires g c = record {
 
 pub set_head-requires : goal.set_head-requires
 set_head-requires g c = record {
-  within =
-      omega (arith, bucket_slot c.args.self.now c.args.w.home c.requires.bucket, as_long_set _ _ _ _ c.set_pair.ensures.pair, as_long _ _ c.set_next.ensures.pair);
+  within = slot_kept c.args.self.now _ _ _ c.args.w.home (c.set_next.ensures.pair ∙ c.set_pair.ensures.pair) c.requires.bucket;
   fits = omega (arith, c.requires.room, within_links c.args.self.now);
 }
 
 pub marks_of-marks-requires : goal.marks_of-marks-requires
 marks_of-marks-requires g c =
-    omega (
-      arith,
-      bucket_slot c.args.self.now c.args.w.home c.requires.bucket,
-      as_long_set _ _ _ _ c.set_pair.ensures.pair,
-      as_long _ _ c.set_next.ensures.pair,
-      as_long _ _ c.set_head.ensures.pair,
-    )
+    slot_kept c.args.self.now _ _ _ c.args.w.home (c.set_head.ensures.pair ∙ (c.set_next.ensures.pair ∙ c.set_pair.ensures.pair)) c.requires.bucket
 
 pub set_marks-requires : goal.set_marks-requires
 set_marks-requires g c =
-    omega (
-      arith,
-      bucket_slot c.args.self.now c.args.w.home c.requires.bucket,
-      as_long_set _ _ _ _ c.set_pair.ensures.pair,
-      as_long _ _ c.set_next.ensures.pair,
-      as_long _ _ c.set_head.ensures.pair,
-    )
+    slot_kept c.args.self.now _ _ _ c.args.w.home (c.set_head.ensures.pair ∙ (c.set_next.ensures.pair ∙ c.set_pair.ensures.pair)) c.requires.bucket
 
 pub returns : goal.returns
 returns g c =
