@@ -1,10 +1,12 @@
 -- The entries of a table, in the slots that hold them.
-use Rattle.std.proofs.Common.{◌≡◌, ℕ, ◌+◌, ◌*◌, ◌<◌, ◌≤◌, List, [], ◌∷◌, ◌++◌, length, get_or, take, set, sym, ap, ◌∙◌, arith}
-use Rattle.std.proofs.lemmas.List.{length-take-le, length-map, get_or-take, get_or-map, take_more_set}
+use Rattle.std.proofs.Common.{◌≡◌, ℕ, ◌+◌, ◌<◌, ◌≤◌, List, [], ◌∷◌, ◌++◌, length, get_or, take, set, Some, option_map, sym, refl, ap, ◌∙◌, arith}
+use Rattle.std.proofs.lemmas.List.{length-take-le, length-map, get_or-take, take_more_set}
+use Rattle.std.proofs.lemmas.Option.{slice_get-map, slice_get_read}
+use Rattle.std.specs.List.{slice_get}
 use Rattle.lists.proofs.Chains.{emptied}
 use Rattle.table.specs.declared.slot.Slot.{Slot}
-use Rattle.table.specs.Slots.{pairs, headed, two, none}
-use Rattle.table.specs.Index.{capacity_of, Indexed}
+use Rattle.table.specs.Slots.{pairs, none}
+use Rattle.table.specs.Index.{capacity_of, Indexed, Emptied}
 use Rattle.table.specs.Content.{Content, content, Sound}
 use Rattle.table.proofs.Capacity.{within_memory, within_links}
 
@@ -22,17 +24,29 @@ module _ {K V : Type 0} {hashed : K → ℕ} {xs : List (Slot K V)} {len : ℕ} 
   pub length_seen : {C : Content K V} → content len xs ≡ C → length C.entries ≡ len
   length_seen seen = sym (ap (λ z. length z.entries) seen) ∙ length_entries
 
+  -- a place of those entries
+  pub seen_place : {C : Content K V} → content len xs ≡ C → (i : ℕ) → i < length C.entries → (i < len) × (i < length xs)
+  seen_place seen i lt = (omega (arith, length_seen seen), omega (arith, length_seen seen, in_memory))
+
   pub entry_at : (i : ℕ) (d : K × V) → i < len → get_or (take len (pairs xs)) i d ≡ get_or (pairs xs) i d
   entry_at i d lt = get_or-take len (pairs xs) i d lt
 
-  -- the key at a place is the slot's
-  pub key_of_slot : (i : ℕ) (s : Slot K V) (d : K × V) → i < len → (get_or (take len (pairs xs)) i d).0 ≡ (get_or xs i s).key
-  key_of_slot i s d lt =
-      ap (λ (z : K × V). z.0) (entry_at i d lt ∙ get_or-map (λ (z : Slot K V). (z.key, z.value)) xs i s d (omega (arith, in_memory)))
+  -- the key at a place, among the entries
+  pub key_of_entry : (i : ℕ) (k : K) (d : K × V) → i < len → ((e : K × V) → k ≡ (get_or (pairs xs) i e).0)
+      → (get_or (take len (pairs xs)) i d).0 ≡ k
+  key_of_entry i k d lt is = ap (λ (z : K × V). z.0) (entry_at i d lt) ∙ sym (is d)
+
+-- the entry of the slot at a place of the slots of es
+pub slot_entry : {K V : Type 0} (xs : List (Slot K V)) (es : List (K × V)) → pairs xs ≡ es → (i : ℕ) (s : Slot K V) → i < length xs
+    → s ≡ get_or xs i s → slice_get es i ≡ Some (s.key, s.value)
+slot_entry {K} {V} xs es e i s lt is =
+    ap (λ z. slice_get z i) (sym e)
+    ∙ (slice_get-map (λ (z : Slot K V). (z.key, z.value)) xs i
+    ∙ ap (option_map (λ (z : Slot K V). (z.key, z.value))) (slice_get_read xs (length xs) i s refl lt is))
 
 -- a table with no entries, over slots whose buckets are empty
 pub sound_empty : {K V W : Type 0} {value : K → W} {hashed : K → ℕ} {xs : List (Slot K V)}
-    → ((b : ℕ) → b < 2 * capacity_of xs → two (headed xs) b ≡ none) → Sound value hashed 0 xs
+    → Emptied xs → Sound value hashed 0 xs
 sound_empty empty = record {
   index = record {
     fits = omega arith;

@@ -8,7 +8,7 @@ use Rattle.table.specs.declared.slot.Slot.{Slot}
 use Rattle.table.specs.Slots.{pairs, headed, nexts, marked, at, two, none}
 use Rattle.table.specs.Index.{home, homes, mark, tags, bit_of, off, capacity_of, bucket_of, Marked, Indexed}
 use Rattle.table.proofs.Lists.{kept}
-use Rattle.table.proofs.Writes.{rechained, remarked, off_here, off_other, same_capacity, same_bucket}
+use Rattle.table.proofs.Writes.{rechained, remarked, off_here, off_other, same_capacity, same_bucket, as_long_set, as_long_copied}
 
 -- the entry e is written at place g
 module _ {K V : Type 0} (g : ℕ) (es es' : List (K × V)) (e : K × V) (is : es' ≡ set es g e) where
@@ -57,9 +57,9 @@ module _ {K V : Type 0} (g : ℕ) (es es' : List (K × V)) (e : K × V) (is : es
 
 -- the marks of the same entries
 pub marked_same : {K V : Type 0} (hashed : K → ℕ) (xs ys : List (Slot K V)) (n m : ℕ) → Marked hashed xs n → m ≤ n
-    → pairs ys ≡ pairs xs → marked ys ≡ marked xs → length ys ≡ length xs → Marked hashed ys m
-marked_same hashed xs ys n m M le ep em el i lt =
-    ap (λ z. bit_of (two (marked ys) z) (at (tags hashed (pairs ys)) i)) (same_bucket hashed xs ys ep el i)
+    → pairs ys ≡ pairs xs → marked ys ≡ marked xs → Marked hashed ys m
+marked_same hashed xs ys n m M le ep em i lt =
+    ap (λ z. bit_of (two (marked ys) z) (at (tags hashed (pairs ys)) i)) (same_bucket hashed xs ys ep i)
     ∙ (ap (λ z. bit_of (two z (bucket_of hashed xs i)) (at (tags hashed (pairs ys)) i)) em
     ∙ (ap (λ z. bit_of (two (marked xs) (bucket_of hashed xs i)) (at (tags hashed z) i)) ep ∙ M i (omega arith)))
 
@@ -78,8 +78,8 @@ kept_part part (e ∷ es) es' g l is gl i ne = other_part g (e ∷ es) es' (get_
 
 -- the marks after the last of n + 1 entries was copied to place g
 pub marked_moved : {K V : Type 0} (hashed : K → ℕ) (xs ys : List (Slot K V)) (n g : ℕ) → Marked hashed xs (n + 1) → g < n → n < length xs
-    → ((d : K × V) → pairs ys ≡ set (pairs xs) g (get_or (pairs xs) n d)) → marked ys ≡ marked xs → length ys ≡ length xs → Marked hashed ys n
-marked_moved {K} {V} hashed xs ys n g M gn nl ep em el i lt =
+    → ((d : K × V) → pairs ys ≡ set (pairs xs) g (get_or (pairs xs) n d)) → marked ys ≡ marked xs → Marked hashed ys n
+marked_moved {K} {V} hashed xs ys n g M gn nl ep em i lt =
     let cap = capacity_of xs in
     let in_g : g < length (pairs xs) = simp length-map (omega arith) in
     let in_n : n < length (pairs xs) = simp length-map nl in
@@ -87,7 +87,7 @@ marked_moved {K} {V} hashed xs ys n g M gn nl ep em el i lt =
     → at (tags hashed (pairs ys)) i ≡ at (tags hashed (pairs xs)) j → j < n + 1
     → bit_of (two (marked ys) (bucket_of hashed ys i)) (at (tags hashed (pairs ys)) i) ≡ 1 =
     λ j eh et jl.
-    ap (λ z. bit_of (two (marked ys) (at (homes hashed z (pairs ys)) i)) (at (tags hashed (pairs ys)) i)) (same_capacity xs ys el)
+    ap (λ z. bit_of (two (marked ys) (at (homes hashed z (pairs ys)) i)) (at (tags hashed (pairs ys)) i)) (same_capacity xs ys (as_long_copied xs ys g n nl ep))
     ∙ (ap (λ z. bit_of (two (marked ys) z) (at (tags hashed (pairs ys)) i)) eh
     ∙ (ap (λ z. bit_of (two (marked ys) (bucket_of hashed xs j)) z) et
     ∙ (ap (λ z. bit_of (two z (bucket_of hashed xs j)) (at (tags hashed (pairs xs)) j)) em ∙ M j jl))) in
@@ -103,10 +103,9 @@ marked_moved {K} {V} hashed xs ys n g M gn nl ep em el i lt =
 
 -- the index of entries of which one has another value under its key
 pub indexed_set : {K V : Type 0} (hashed : K → ℕ) (xs ys : List (Slot K V)) (n i : ℕ) (k : K) (v : V) → Indexed hashed xs n
-    → ((d : K × V) → k ≡ (get_or (pairs xs) i d).0) → length ys ≡ length xs
-    → pairs ys ≡ set (pairs xs) i (k, v) → headed ys ≡ headed xs → nexts ys ≡ nexts xs → marked ys ≡ marked xs → Indexed hashed ys n
-indexed_set {K} {V} hashed xs ys n i k v I key el ep eh en em =
-    let cap : capacity_of ys ≡ capacity_of xs = same_capacity xs ys el in
+    → ((d : K × V) → k ≡ (get_or (pairs xs) i d).0) → pairs ys ≡ set (pairs xs) i (k, v) → headed ys ≡ headed xs → nexts ys ≡ nexts xs → marked ys ≡ marked xs → Indexed hashed ys n
+indexed_set {K} {V} hashed xs ys n i k v I key ep eh en em =
+    let cap : capacity_of ys ≡ capacity_of xs = same_capacity xs ys (as_long_set xs ys i (k, v) ep) in
     let same : (part : K → ℕ) → map (λ (e : K × V). part e.0) (pairs ys) ≡ map (λ (e : K × V). part e.0) (pairs xs) =
     λ part.
     ap (map (λ (e : K × V). part e.0)) ep

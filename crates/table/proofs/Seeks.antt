@@ -1,5 +1,5 @@
 -- A search for a key down the chain of its bucket.
-use Rattle.std.proofs.Common.{◌≡◌, ℕ, ◌<◌, ◌≤◌, true, false, List, [], ◌∷◌, map, get_or, take, Some, None, Ok, Err, Option, Ordering, sym, refl, ap, subst, ◌∙◌, inl, inr, arith}
+use Rattle.std.proofs.Common.{◌≡◌, ℕ, ◌<◌, ◌≤◌, true, false, List, [], ◌∷◌, map, get_or, take, Some, None, Ok, Err, Option, ok_or, Ordering, sym, refl, ap, subst, ◌∙◌, inl, inr, arith}
 use Rattle.std.proofs.lemmas.List.{length-map, get_or-map}
 use Rattle.std.proofs.lemmas.Bool.{cases_lt, cases_Bool, both_ways}
 use Rattle.std.specs.Ordering.{is_eq}
@@ -15,7 +15,7 @@ use Rattle.table.specs.Content.{Content, content, Apart}
 use Rattle.lists.specs.Positions.{position}
 use Rattle.lists.proofs.Positions.{position_at, position_none, none_passes}
 use Rattle.table.specs.declared.table.Vacancy.{Vacancy}
-use Rattle.table.specs.Searches.{Absent, Present, Unseen}
+use Rattle.table.specs.Searches.{Absent, Present, Located, Unseen}
 use Rattle.table.specs.Tables.{vacancy, found, sought}
 
 -- what follows from the value of a key, where an entry has it
@@ -79,6 +79,14 @@ module _ {K V W : Type 0} (order : W → W → Ordering) (laws : Laws order) (va
       at_first (x ∷ xs) A Q =
           position_at (λ e. alike order (value e.0) (value k)) (x ∷ xs) i x Q.0 (same_alike order laws _ _ (Q.1 x))
           (λ j lt. not_alike order laws _ _ (λ e. A j i x lt Q.0 (e ∙ sym (Q.1 x))))
+
+-- the same of either answer, and the vacancy where there is none
+pub located_sought : {K V W : Type 0} (order : W → W → Ordering) (laws : Laws order) (value : K → W) (hashed : K → ℕ) (room : ℕ) (es : List (K × V)) (k : K) (o : Option ℕ) (w : Vacancy)
+    → Apart value es → Located value es k o → w ≡ vacancy room (hashed k) → ok_or o w ≡ sought order value hashed room es k
+located_sought order laws value hashed room es k None w apart L e =
+    ap Err e ∙ sym (ap (λ z. found z (vacancy room (hashed k))) (absent_position order laws value es k L))
+located_sought order laws value hashed room es k (Some i) w apart L e =
+    sym (ap (λ z. found z (vacancy room (hashed k))) (present_position order laws value es k apart i L))
 
 found_none : (o : Option ℕ) (v w : Vacancy) → found o v ≡ Err w → (o ≡ None) × (v ≡ w)
 found_none None v w e = (refl, cc)

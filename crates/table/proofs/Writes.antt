@@ -1,11 +1,13 @@
 -- A write to a holder, and what it leaves of the chains.
-use Rattle.std.proofs.Common.{◌≡◌, ℕ, ◌*◌, ◌<◌, ◌≤◌, min, eqb, List, length, set, sym, refl, ap, ◌∙◌, inl, inr, arith}
+use Rattle.std.proofs.Common.{◌≡◌, ℕ, ◌*◌, ◌/◌, ◌<◌, ◌≤◌, min, eqb, List, [], ◌∷◌, length, get_or, set, sym, refl, ap, ◌∙◌, inl, inr, arith}
+use Rattle.std.proofs.lemmas.List.{length-map, length-set}
 use Rattle.lists.specs.Chains.{Above, Put, Chains}
 use Rattle.table.specs.declared.slot.Slot.{Slot}
 use Rattle.table.specs.Slots.{pairs, at, two, none, TwoSet}
 use Rattle.std.proofs.lemmas.Bool.{cases_eq, cond-true, cond-false, eq-eqb, ne_eqb}
 use Rattle.lists.specs.Latest.{latest}
 use Rattle.table.specs.Index.{homes, bit_of, off, held, capacity_of, bucket_of, InBucket}
+use Rattle.table.proofs.Capacity.{bucket_slot}
 use Rattle.table.proofs.Lists.{at_set, at_other, at_same}
 
 pub two_same : (l l' : List (List ℕ)) → l' ≡ l → (b : ℕ) → two l' b ≡ two l b
@@ -31,6 +33,29 @@ put_link n b p v fs fs' ns ns' pn lt ef en = record {
 
 pub same_capacity : {A B : Type 0} (xs : List A) (ys : List B) → length ys ≡ length xs → capacity_of ys ≡ capacity_of xs
 same_capacity xs ys e = ap (λ n. min n 65535) e
+
+-- a memory with the same entries has as many slots
+pub as_long : {K V : Type 0} (xs ys : List (Slot K V)) → pairs ys ≡ pairs xs → length ys ≡ length xs
+as_long xs ys e = sym (length-map ys _) ∙ (ap length e ∙ length-map xs _)
+
+-- also where an entry is written
+pub as_long_set : {K V : Type 0} (xs ys : List (Slot K V)) (i : ℕ) (e : K × V) → pairs ys ≡ set (pairs xs) i e → length ys ≡ length xs
+as_long_set xs ys i e is = sym (length-map ys _) ∙ (ap length is ∙ (length-set (pairs xs) i e ∙ length-map xs _))
+
+-- or where one is copied from place l
+pub as_long_copied : {K V : Type 0} (xs ys : List (Slot K V)) (i l : ℕ) → l < length xs
+    → ((d : K × V) → pairs ys ≡ set (pairs xs) i (get_or (pairs xs) l d)) → length ys ≡ length xs
+as_long_copied [] ys i l lt is = omega arith
+as_long_copied (x ∷ xs) ys i l lt is = as_long_set (x ∷ xs) ys i _ (is (x.key, x.value))
+
+-- and as much room
+pub same_room : {K V : Type 0} (xs ys : List (Slot K V)) → pairs ys ≡ pairs xs → capacity_of ys ≡ capacity_of xs
+same_room xs ys e = same_capacity xs ys (as_long xs ys e)
+
+-- the slot of a bucket is there after an entry is written
+pub slot_kept : {K V : Type 0} (xs ys : List (Slot K V)) (i : ℕ) (e : K × V) (b : ℕ) → pairs ys ≡ set (pairs xs) i e
+    → b < 2 * capacity_of xs → b / 2 < length ys
+slot_kept xs ys i e b is lt = omega (arith, bucket_slot xs b lt, as_long_set xs ys i e is)
 
 pub off_here : (buckets g : ℕ) (h : ℕ → ℕ) → off buckets g h g ≡ buckets
 off_here buckets g h = cond-true (eqb g g) _ _ (eq-eqb g g refl)
@@ -72,16 +97,16 @@ pub put_after : (n b p v : ℕ) (fs fs₀ : List (List ℕ)) (x f' x' : ℕ → 
 put_after n b p v fs fs₀ x f' x' e P = rw (sym e) P
 
 -- the same entries hang in the same buckets
-pub same_bucket : {K V : Type 0} (hashed : K → ℕ) (xs ys : List (Slot K V)) → pairs ys ≡ pairs xs → length ys ≡ length xs
-    → (i : ℕ) → bucket_of hashed ys i ≡ bucket_of hashed xs i
-same_bucket hashed xs ys e n i =
-    ap (λ z. at (homes hashed z (pairs ys)) i) (same_capacity xs ys n) ∙ ap (λ z. at (homes hashed (capacity_of xs) z) i) e
+pub same_bucket : {K V : Type 0} (hashed : K → ℕ) (xs ys : List (Slot K V)) → pairs ys ≡ pairs xs → (i : ℕ)
+    → bucket_of hashed ys i ≡ bucket_of hashed xs i
+same_bucket hashed xs ys e i =
+    ap (λ z. at (homes hashed z (pairs ys)) i) (same_room xs ys e) ∙ ap (λ z. at (homes hashed (capacity_of xs) z) i) e
 
-pub still_in_bucket : {K V : Type 0} (hashed : K → ℕ) (xs ys : List (Slot K V)) (i b : ℕ) → pairs ys ≡ pairs xs → length ys ≡ length xs
+pub still_in_bucket : {K V : Type 0} (hashed : K → ℕ) (xs ys : List (Slot K V)) (i b : ℕ) → pairs ys ≡ pairs xs
     → InBucket hashed xs i b → InBucket hashed ys i b
-still_in_bucket hashed xs ys i b e n B = record {
-  below = omega (arith, B.below, same_capacity xs ys n);
-  home = same_bucket hashed xs ys e n i ∙ B.home;
+still_in_bucket hashed xs ys i b e B = record {
+  below = omega (arith, B.below, same_room xs ys e);
+  home = same_bucket hashed xs ys e i ∙ B.home;
 }
 
 -- the same chains, from links that are equal as lists

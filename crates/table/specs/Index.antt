@@ -66,3 +66,7 @@ pub record Indexed {K V : Type 0} (hashed : K → ℕ) (xs : List (Slot K V)) (n
   pub fits : n ≤ capacity_of xs
   pub chained : Chained hashed xs n
   pub marks : Marked hashed xs n
+
+-- every bucket is empty
+abbrev pub Emptied : {K V : Type 0} → List (Slot K V) → Type 0
+Emptied xs = (b : ℕ) → b < 2 * capacity_of xs → two (headed xs) b ≡ none

@@ -1,8 +1,7 @@
 ghost use Rattle.std.specs.Prelude.{◌≡◌, ◌<◌, length, slice_index_or};
 ghost use Rattle.table.specs.Slots.{pairs};
 
-use crate::index::capacity_of;
-use crate::slot::{Slot, key_of, value_of};
+use crate::slot::Slot;
 use crate::table::Table;
 use keys::nodes::NodeTrait;
 
@@ -18,14 +17,14 @@ impl<'a, K: NodeTrait, V: Copy> Table<'a, K, V> {
     pub fn capacity(&self) -> usize
         ensures { result ≡ self.now.room }
     {
-        capacity_of(self.slots)
+        self.memory.capacity()
     }
 
     /// The slots of the entries, by place.
     pub fn as_slice(&self) -> &[Slot<K, V>]
         ensures { pairs result.now ≡ self.now.entries }
     {
-        &self.slots[..self.len]
+        self.memory.first(self.len)
     }
 
     /// The key at a place.
@@ -33,7 +32,7 @@ impl<'a, K: NodeTrait, V: Copy> Table<'a, K, V> {
         requires place { i < length self.now.entries }
         ensures { (d : K × V) → result ≡ (slice_index_or self.now.entries i d).0 }
     {
-        key_of(self.slots, i)
+        self.memory.key_of(i)
     }
 
     /// The value at a place.
@@ -41,6 +40,6 @@ impl<'a, K: NodeTrait, V: Copy> Table<'a, K, V> {
         requires place { i < length self.now.entries }
         ensures { (d : K × V) → result ≡ (slice_index_or self.now.entries i d).1 }
     {
-        value_of(self.slots, i)
+        self.memory.value_of(i)
     }
 }

@@ -7,7 +7,7 @@ use Rattle.table.proofs.Apart.{apart_push}
 use Rattle.table.proofs.Entries.{length_entries, length_seen, take_set_end}
 use Rattle.table.proofs.Homes.{home_below}
 use Rattle.table.proofs.Seeks.{seen_vacant}
-use Rattle.table.proofs.Writes.{same_capacity}
+use Rattle.table.proofs.Writes.{as_long_set, same_capacity}
 use Rattle.table.proofs.table.Table.append.Goals as goal
 
 pub returns-then-len-capacity : goal.returns-then-len-capacity
@@ -21,7 +21,7 @@ returns-then-len-capacity g c =
 
 pub enter-requires : goal.enter-requires
 enter-requires g c =
-    let s = c.self.inside.slots.now in
+    let s = c.self.inside.memory in
     let room : c.self.inside.len < capacity_of s = omega (arith, c.capacity.ensures, ap (λ z. z.room) c.self.view_is) in
     let v =
     seen_vacant g.K.NodeTrait.order g.met.K.NodeTrait.ordered g.K.NodeTrait.value g.K.NodeTrait.hashed _ _ c.args.k c.args.w c.self.view_is c.requires.absent in
@@ -35,7 +35,7 @@ enter-requires g c =
 
 pub invariant_of-self : goal.invariant_of-self
 invariant_of-self g c =
-    let s = c.self.inside.slots.now in
+    let s = c.self.inside.memory in
     let len = c.self.inside.len in
     let v =
     seen_vacant g.K.NodeTrait.order g.met.K.NodeTrait.ordered g.K.NodeTrait.value g.K.NodeTrait.hashed _ _ c.args.k c.args.w c.self.view_is c.requires.absent in
@@ -43,14 +43,14 @@ invariant_of-self g c =
     record {
       index = c.enter.ensures.indexed;
       apart =
-          rw (take_set_end s c.enter.new.slots len (c.args.k, c.args.v) c.enter.ensures.pair room)
+          rw (take_set_end s c.enter.new.self len (c.args.k, c.args.v) c.enter.ensures.pair room)
           (apart_push g.K.NodeTrait.value (take len (pairs s)) c.args.k c.args.v c.self.invariant.apart v.0);
     }
 
 pub returns : goal.returns
 returns g c =
-    let s = c.self.inside.slots.now in
-    let s' = c.enter.new.slots in
+    let s = c.self.inside.memory in
+    let s' = c.enter.new.self in
     let len = c.self.inside.len in
     let es = take len (pairs s) in
     let room : len < capacity_of s = omega (arith, c.capacity.ensures, ap (λ z. z.room) c.self.view_is) in
@@ -60,5 +60,5 @@ returns g c =
           ap (λ z. (Some len, z)) (take_set_end s s' len (c.args.k, c.args.v) c.enter.ensures.pair room)
           ∙ (ap (λ z. (Some z, es ++ (c.args.k, c.args.v) ∷ [])) (sym (length_entries c.self.invariant.index))
           ∙ sym (cond-true (ltb (length es) (capacity_of s)) _ _ (lt-ltb _ _ (omega (arith, length_entries c.self.invariant.index)))));
-      room = same_capacity s s' (omega arith);
+      room = same_capacity s s' (as_long_set s s' len _ c.enter.ensures.pair);
     })

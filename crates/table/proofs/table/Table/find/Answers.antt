@@ -1,20 +1,20 @@
-use Rattle.std.proofs.Common.{◌≡◌, Err, sym, refl, ap, ◌∙◌, arith}
+use Rattle.std.proofs.Common.{◌≡◌, sym, refl, ap, ◌∙◌, arith}
 use Rattle.table.specs.declared.table.Vacancy.{Vacancy}
 use Rattle.table.specs.Index.{capacity_of}
-use Rattle.table.specs.Tables.{vacancy, found}
+use Rattle.table.specs.Tables.{vacancy}
 use Rattle.table.proofs.Capacity.{within_links}
 use Rattle.table.proofs.Homes.{home_below}
-use Rattle.table.proofs.Seeks.{absent_position, present_position}
+use Rattle.table.proofs.Seeks.{located_sought}
 use Rattle.table.proofs.table.Table.find.Goals as goal
 
 pub vacancy_of-w-requires : goal.vacancy_of-w-requires
-vacancy_of-w-requires g c = omega (arith, c.capacity_of.ensures, within_links c.self.inside.slots.now)
+vacancy_of-w-requires g c = omega (arith, c.capacity.ensures, within_links c.self.inside.memory)
 
 pub seek-requires : goal.seek-requires
 seek-requires g c =
-    let cap = capacity_of c.self.inside.slots.now in
+    let cap = capacity_of c.self.inside.memory in
     let w : c.vacancy_of-w.result ≡ vacancy cap c.hash.result =
-    c.vacancy_of-w.ensures ∙ ap (λ z. vacancy z c.hash.result) c.capacity_of.ensures in
+    c.vacancy_of-w.ensures ∙ ap (λ z. vacancy z c.hash.result) c.capacity.ensures in
     record {
       indexed = c.self.invariant.index;
       bucket =
@@ -22,20 +22,13 @@ seek-requires g c =
       hashed = λ j e. ap (vacancy cap) (c.hash.ensures j e) ∙ sym w;
     }
 
-pub returns-in-Some : goal.returns-in-Some
-returns-in-Some g c =
-    rw (← c.self.view_is)
-    (sym (ap (λ z. found z (vacancy (capacity_of c.self.inside.slots.now) (g.K.NodeTrait.hashed c.args.k.now)))
-    (present_position g.K.NodeTrait.order g.met.K.NodeTrait.ordered g.K.NodeTrait.value _ c.args.k.now c.self.invariant.apart
-    c.in-Some.i c.in-Some.ensures)))
-
-pub returns-in-None : goal.returns-in-None
-returns-in-None g c =
-    let cap = capacity_of c.self.inside.slots.now in
+pub returns : goal.returns
+returns g c =
+    let cap = capacity_of c.self.inside.memory in
     let w : c.vacancy_of-w.result ≡ vacancy cap (g.K.NodeTrait.hashed c.args.k.now) =
     c.vacancy_of-w.ensures
-    ∙ (ap (λ z. vacancy z c.hash.result) c.capacity_of.ensures ∙ ap (vacancy cap) (sym (c.hash.ensures c.args.k.now refl))) in
+    ∙ (ap (λ z. vacancy z c.hash.result) c.capacity.ensures ∙ ap (vacancy cap) (sym (c.hash.ensures c.args.k.now refl))) in
     rw (← c.self.view_is)
-    (ap Err w
-    ∙ sym (ap (λ z. found z (vacancy cap (g.K.NodeTrait.hashed c.args.k.now)))
-    (absent_position g.K.NodeTrait.order g.met.K.NodeTrait.ordered g.K.NodeTrait.value _ c.args.k.now c.in-None.ensures)))
+    (c.ok_or.ensures.value
+    ∙ located_sought g.K.NodeTrait.order g.met.K.NodeTrait.ordered g.K.NodeTrait.value g.K.NodeTrait.hashed cap _ c.args.k.now c.seek.result _ c.self.invariant.apart
+    c.seek.ensures w)

@@ -6,7 +6,6 @@ use Rattle.table.specs.Tables.{taken_at}
 use Rattle.table.proofs.Apart.{apart_swap_removed}
 use Rattle.table.proofs.Entries.{length_entries, length_seen}
 use Rattle.table.proofs.Lists.{pair_is}
-use Rattle.table.proofs.Writes.{same_capacity}
 use Rattle.table.proofs.table.Table.swap_remove.Goals as goal
 
 pub returns-then-i-len : goal.returns-then-i-len
@@ -35,7 +34,7 @@ invariant_of-self g c = record {
 
 pub returns : goal.returns
 returns g c =
-    let s = c.self.inside.slots.now in
+    let s = c.self.inside.memory in
     let len = c.self.inside.len in
     let i = c.args.i in
     let es = take len (pairs s) in
@@ -49,5 +48,5 @@ returns g c =
           ap (λ z. (Some (record { entry = old; last = len - 1; gap = i }), z)) c.extract.ensures.entries
           ∙ (ap (λ z. (Some (record { entry = old; last = z - 1; gap = i }), swap_removed es i)) (sym n)
           ∙ sym (ap (taken_at es i) (slice_get-get_or es i old (omega arith) ∙ ap Some (sym was))));
-      room = same_capacity s c.extract.new.slots (omega arith);
+      room = c.extract.ensures.room;
     })

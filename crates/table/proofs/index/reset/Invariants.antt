@@ -1,6 +1,0 @@
-use Rattle.std.proofs.Common.{◌≡◌, ℕ, ◌*◌, ◌<◌}
-use Rattle.table.specs.Slots.{headed, two, none}
-use Rattle.table.proofs.index.reset.Given as goal
-
-abbrev pub invariant-loop-slot : goal.invariant-loop-slot
-invariant-loop-slot g l = (b : ℕ) → b < 2 * l.slot-index → two (headed l.slot-items) b ≡ none
