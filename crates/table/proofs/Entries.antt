@@ -1,7 +1,7 @@
 -- The entries of a table, in the slots that hold them.
 use Rattle.std.proofs.Common.{◌≡◌, ℕ, ◌+◌, ◌<◌, ◌≤◌, List, [], ◌∷◌, ◌++◌, length, get_or, take, set, Some, option_map, sym, refl, ap, ◌∙◌, arith}
 use Rattle.std.proofs.lemmas.List.{length-take-le, length-map, get_or-take, take_more_set}
-use Rattle.std.proofs.lemmas.Option.{slice_get-map, slice_get_read}
+use Rattle.std.proofs.lemmas.Option.{slice_get-map, slice_get_read, slice_get_within}
 use Rattle.std.specs.List.{slice_get}
 use Rattle.lists.proofs.Chains.{emptied}
 use Rattle.table.specs.declared.slot.Slot.{Slot}
@@ -36,13 +36,15 @@ module _ {K V : Type 0} {hashed : K → ℕ} {xs : List (Slot K V)} {len : ℕ} 
       → (get_or (take len (pairs xs)) i d).0 ≡ k
   key_of_entry i k d lt is = ap (λ (z : K × V). z.0) (entry_at i d lt) ∙ sym (is d)
 
--- the entry of the slot at a place of the slots of es
-pub slot_entry : {K V : Type 0} (xs : List (Slot K V)) (es : List (K × V)) → pairs xs ≡ es → (i : ℕ) (s : Slot K V) → i < length xs
-    → s ≡ get_or xs i s → slice_get es i ≡ Some (s.key, s.value)
-slot_entry {K} {V} xs es e i s lt is =
-    ap (λ z. slice_get z i) (sym e)
-    ∙ (slice_get-map (λ (z : Slot K V). (z.key, z.value)) xs i
-    ∙ ap (option_map (λ (z : Slot K V). (z.key, z.value))) (slice_get_read xs (length xs) i s refl lt is))
+  -- the entry of the slot at a place, where ys are the slots of the entries
+  pub seen_slot : {C : Content K V} → content len xs ≡ C → (ys : List (Slot K V)) → pairs ys ≡ C.entries → (i : ℕ) (s : Slot K V)
+      → i < length ys → s ≡ get_or ys i s → (slice_get (take len (pairs xs)) i ≡ Some (s.key, s.value)) × (i < len)
+  seen_slot seen ys e i s lt is =
+      let there : slice_get (take len (pairs xs)) i ≡ Some (s.key, s.value) =
+      ap (λ z. slice_get z i) (ap (λ z. z.entries) seen ∙ sym e)
+      ∙ (slice_get-map (λ (z : Slot K V). (z.key, z.value)) ys i
+      ∙ ap (option_map (λ (z : Slot K V). (z.key, z.value))) (slice_get_read ys (length ys) i s refl lt is)) in
+      (there, omega (arith, slice_get_within (take len (pairs xs)) i _ there, length_entries))
 
 -- a table with no entries, over slots whose buckets are empty
 pub sound_empty : {K V W : Type 0} {value : K → W} {hashed : K → ℕ} {xs : List (Slot K V)}

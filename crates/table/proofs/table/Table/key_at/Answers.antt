@@ -1,9 +1,9 @@
-use Rattle.std.proofs.Common.{sym, ap, ◌∙◌}
+use Rattle.std.proofs.Common.{sym, ap, ◌∙◌, arith}
 use Rattle.table.proofs.Entries.{seen_place, entry_at}
 use Rattle.table.proofs.table.Table.key_at.Goals as goal
 
 pub key_of-requires : goal.key_of-requires
-key_of-requires g c = (seen_place c.self.invariant.index c.self.view_is c.args.i c.requires.place).1
+key_of-requires g c = omega (arith, (seen_place c.self.invariant.index c.self.view_is c.args.i c.requires.place).1)
 
 pub returns : goal.returns
 returns g c d =
