@@ -24,24 +24,17 @@ use Rattle.graphmap.specs.Walks.{first_by, key_of}
 use Rattle.graphmap.proofs.Lists.{kept_map, kept_all, map_map, count_kept, count_place}
 use Rattle.graphmap.proofs.NodeRows.{told_row}
 
--- the first of a list, by what a step gave
-module _ {X Y : Type 0} (f : X → Option Y) where
-  pub first_turned : (xs ys : List X) (r : Option X) (x : X) → ◌≡◌ {A = Option X × List X} (r, ys) (first_of xs) → r ≡ Some x → ◌≡◌ {A = Option Y × List X} (f x, ys) (first_by f xs)
-  first_turned [] ys r x e q =
-      let p = ap (λ (z : Option X × List X). z.0) e in
-      let z : ◌≡◌ {A = ℕ} 0 1 = cc in
-      absurd (omega arith)
-  first_turned (y ∷ zs) ys r x e q =
-      let p : Some x ≡ Some y = sym q ∙ ap (λ (z : Option X × List X). z.0) e in
-      let s : x ≡ y = cc in
-      λ i. (f (s i), (e i).1)
-
-  pub first_ended : (xs ys : List X) (r : Option X) → ◌≡◌ {A = Option X × List X} (r, ys) (first_of xs) → r ≡ None → ◌≡◌ {A = Option Y × List X} (None, ys) (first_by f xs)
-  first_ended [] ys r e q = λ i. (None, (e i).1)
-  first_ended (y ∷ zs) ys r e q =
-      let p = ap (λ (z : Option X × List X). z.0) e in
-      let z : ◌≡◌ {A = ℕ} 0 1 = cc in
-      absurd (omega arith)
+-- the first of a list, by what a step gave: y
+pub first_turned : {X Y : Type 0} (f : X → Option Y) (xs ys : List X) (r : Option X) (x : X) (y : Option Y) → ◌≡◌ {A = Option X × List X} (r, ys) (first_of xs) → r ≡ Some x → y ≡ f x
+    → ◌≡◌ {A = Option Y × List X} (y, ys) (first_by f xs)
+first_turned {X} f [] ys r x y e q p =
+    let n = ap (λ (z : Option X × List X). z.0) e in
+    let z : ◌≡◌ {A = ℕ} 0 1 = cc in
+    absurd (omega arith)
+first_turned {X} f (v ∷ vs) ys r x y e q p =
+    let n : Some x ≡ Some v = sym q ∙ ap (λ (z : Option X × List X). z.0) e in
+    let s : x ≡ v = cc in
+    λ i. ((p ∙ ap f s) i, (e i).1)
 
 first_count : (xs ys : List ℕ) (r : Option ℕ) (c : ℕ) → ◌≡◌ {A = Option ℕ × List ℕ} (r, ys) (first_of xs) → r ≡ Some c → 1 ≤ count c xs
 first_count [] ys r c e q =
