@@ -2,6 +2,7 @@
 use Rattle.std.proofs.Common.{◌≡◌, ℕ, zero, suc, ◌<◌, ◌≤◌, true, ltb, List, [], ◌∷◌, map, length, get_or, Some, None, Option, sym, refl, ap, ◌∙◌, subst, ⊎_elim, arith}
 use Rattle.std.specs.List.{slice_get}
 use Rattle.std.proofs.lemmas.List.{length-map}
+use Rattle.std.proofs.lemmas.Simd.{map-map}
 use Rattle.std.proofs.lemmas.Bool.{cases_lt, cases_eq, lt-ltb, le-ltb, cond-true, cond-false}
 use Rattle.keys.specs.declared.kinds.Direction.{Direction}
 use Rattle.keys.specs.declared.kinds.Direction.TheVariants.{Outgoing}
@@ -21,7 +22,7 @@ use Rattle.halfedges.specs.Cells.{count}
 use Rattle.halfedges.proofs.Counts.{bit_is, bit_other}
 use Rattle.halfedges.proofs.Told.{entry}
 use Rattle.graphmap.specs.Walks.{first_by, key_of}
-use Rattle.graphmap.proofs.Lists.{kept_map, kept_all, map_map, count_kept, count_place}
+use Rattle.graphmap.proofs.Lists.{kept_map, kept_all, count_kept, count_place}
 use Rattle.graphmap.proofs.NodeRows.{told_row}
 
 -- the first of a list, by what a step gave: y
@@ -86,7 +87,7 @@ module _ {N V : Type 0} (K : Keys N V) (e : N) (mem : List (Cell N)) (kind : Kin
     upcoming_keys =
         let f = entry e (cell_keys mem) in
         ap (map (key_of e mem)) upcoming_row
-        ∙ sym (map_map (λ (x : N × Direction). x.0) f (kept (showing K e mem kind d v) (listed mem h)))
+        ∙ sym (map-map (λ (x : N × Direction). x.0) f (kept (showing K e mem kind d v) (listed mem h)))
         ∙ ap (map (λ x. x.0)) (sym (kept_map f (shown K kind d v) (listed mem h)) ∙ ap (kept (shown K kind d v)) (sym (told_row e mem h linked)))
 
 -- in an Undirected map any direction shows every entry
