@@ -1,8 +1,11 @@
 -- One row of many is edited over one memory: the others stay.
-use Rattle.std.proofs.Common.{◌≡◌, ℕ, zero, suc, ◌+◌, ◌<◌, ◌≤◌, eqb, List, [], ◌∷◌, length, get_or, set, sym, refl, ap, ◌∙◌, subst, ⊎_elim, arith}
+use Rattle.std.proofs.Common.{◌≡◌, ℕ, zero, suc, ◌<◌, ◌≤◌, true, eqb, List, [], ◌∷◌, length, get_or, set, sym, refl, ap, ◌∙◌, subst, ⊎_elim, arith}
 use lib.Seq.{map-set}
 use Rattle.std.proofs.lemmas.List.{get_or-set_same, get_or-set_other, get_or-map, length-set, same_lists}
-use Rattle.std.proofs.lemmas.Bool.{cases_eq}
+use Rattle.std.specs.List.{list_any}
+use Rattle.std.proofs.lemmas.Bool.{cases_eq, ne_eqb}
+use Rattle.std.proofs.lemmas.Map.Keys.{IsDistinct-from_apart}
+use Rattle.std.proofs.lemmas.Map.Steps.{length-le_from_distinct_below}
 use Rattle.model.specs.Lists.{bit}
 use Rattle.model.proofs.Tallies.{tally_one, tally_two}
 use Rattle.rows.specs.declared.cells.Cell.{Cell}
@@ -86,44 +89,26 @@ module _ {N : Type 0} (mem : List (Cell N)) (es : List (N × RowHead)) (alone : 
       let no : ⊥ = omega arith in no)
 
 -- cells below n, each once at most, are n at most
-abbrev upto : (ℕ → ℕ) → ℕ → ℕ
-upto f zero = 0
-upto f (suc n) = f n + upto f n
-
-upto_most : (f : ℕ → ℕ) → ((c : ℕ) → f c ≤ 1) → (n : ℕ) → upto f n ≤ n
-upto_most f h zero = omega arith
-upto_most f h (suc n) = let r = upto_most f h n in omega (arith, h n)
-
-upto_off : (x n : ℕ) → n ≤ x → upto (λ c. bit (eqb c x)) n ≡ 0
-upto_off x zero l = refl
-upto_off x (suc n) l = let r = upto_off x n (omega arith) in let b = bit_other n x (λ e. omega arith) in omega arith
-
-upto_one : (x n : ℕ) → x < n → upto (λ c. bit (eqb c x)) n ≡ 1
-upto_one x zero l = absurd (omega arith)
-upto_one x (suc n) l =
+any_below : (q n : ℕ) (xs : List ℕ) → ((k : ℕ) → k < length xs → nth xs k < n) → list_any (eqb q) xs ≡ true → q < n
+any_below q n [] h e = cc
+any_below q n (x ∷ xs) h e =
     ⊎_elim
-    (λ e. let r = upto_off x n (omega arith) in let b = bit_is n x e in omega arith)
-    (λ ne. let r = upto_one x n (omega arith) in let b = bit_other n x ne in omega arith)
-    (cases_eq n x)
-
-upto_sum : (f g : ℕ → ℕ) (n : ℕ) → upto (λ c. f c + g c) n ≡ upto f n + upto g n
-upto_sum f g zero = refl
-upto_sum f g (suc n) = let r = upto_sum f g n in omega arith
-
-upto_nil : (n : ℕ) → upto (λ c. count c []) n ≡ 0
-upto_nil zero = refl
-upto_nil (suc n) = let r = upto_nil n in omega arith
-
-upto_count : (xs : List ℕ) (n : ℕ) → ((k : ℕ) → k < length xs → nth xs k < n) → upto (λ c. count c xs) n ≡ length xs
-upto_count [] n h = upto_nil n
-upto_count (x ∷ xs) n h =
-    let s = upto_sum (λ c. bit (eqb c x)) (λ c. count c xs) n in
-    let a = upto_one x n (h 0 (omega arith)) in
-    let b = upto_count xs n (λ k l. h (suc k) (omega arith)) in
-    omega arith
+    (λ s. omega (arith, h 0 (omega arith)))
+    (λ ne. any_below q n xs (λ k l. h (suc k) (omega arith)) (rw (ne_eqb q x ne) at e))
+    (cases_eq q x)
 
 short : (xs : List ℕ) (n : ℕ) → ((k : ℕ) → k < length xs → nth xs k < n) → ((c : ℕ) → count c xs ≤ 1) → length xs ≤ n
-short xs n h o = let a = upto_count xs n h in let b = upto_most (λ c. count c xs) o n in omega arith
+short xs n h o =
+    length-le_from_distinct_below xs n
+    (IsDistinct-from_apart eqb xs
+    (λ i j d lt lj.
+    ne_eqb (get_or xs i d) (get_or xs j d)
+    (λ e.
+    let t = tally_two (λ z. bit (eqb (get_or xs i d) z)) xs i j d (omega arith) lj (λ q. omega arith) in
+    let a = bit_is (get_or xs i d) (get_or xs i d) refl in
+    let b = bit_is (get_or xs i d) (get_or xs j d) e in
+    omega (arith, o (get_or xs i d)))))
+    (λ q. any_below q n xs h)
 
 -- a row has room for a cell that stands nowhere
 module _ {N : Type 0} (mem : List (Cell N)) (es : List (N × RowHead)) (i : ℕ) (li : i < length es) (alone : (x : ℕ) → standing x (rowed mem es) ≤ 1)

@@ -1,21 +1,29 @@
 -- A cell that stands is in the row of the node that its twin names.
-use Rattle.std.proofs.Common.{◌≡◌, ℕ, ◌<◌, ◌≤◌, List, length, get_or, Some, None, Ordering, sym, ap, ◌∙◌, subst, ⊎_elim, arith}
+use Rattle.std.proofs.Common.{◌≡◌, ℕ, ◌<◌, ◌≤◌, List, [], length, get_or, Some, None, Ordering, sym, ap, ◌∙◌, subst, ⊎_elim, arith}
 use Rattle.std.proofs.lemmas.List.{get_or_default}
 use Rattle.std.proofs.lemmas.Bool.{cases_lt, both_ways}
 use Rattle.keys.specs.Order.{Laws}
 use Rattle.lists.specs.Positions.{position}
-use Rattle.lists.proofs.Positions.{none_passes}
+use Rattle.lists.proofs.Positions.{none_passes, found_within}
 use Rattle.table.specs.Content.{Apart}
 use Rattle.model.specs.Keys.{Keys, keys, eq}
-use Rattle.model.proofs.Tests.{same_eq, other_eq}
-use Rattle.model.proofs.Positions.{position_sole}
+use Rattle.model.proofs.Tests.{same_eq, other_eq, eq_true}
+use Rattle.model.proofs.Positions.{position_sole, passes_at}
+use Rattle.rows.specs.declared.cells.Cell.{Cell}
 use Rattle.rows.specs.declared.cells.RowHead.{RowHead}
 use Rattle.rows.specs.HalfEdges.{twin}
 use Rattle.rows.specs.Links.{bare}
 use Rattle.halfedges.specs.Cells.{count, standing, row_at, named}
 use Rattle.halfedges.proofs.Rows.{held_in}
-use Rattle.adjacency.specs.Stages.{NodeRows, Stage, rows_of, keys_of}
+use Rattle.adjacency.specs.Stages.{NodeRows, Stage, rowed, rows_of, keys_of}
 use Rattle.adjacency.proofs.Entries.{rowed_length, row_read}
+
+-- the row at the place of a key is that key's
+pub owner_at : {N V : Type 0} (K : Keys N V) (laws : Laws K.order) (mem : List (Cell N)) (es : List (N × RowHead)) (v : V) (i : ℕ) → position (λ e. eq K (K.value e.0) v) es ≡ Some i
+    → (d : N) → v ≡ K.value (get_or (rowed mem es) i (d, [])).0
+owner_at {N} K laws mem es v i at d =
+    let e : N × RowHead = (d, bare) in
+    sym (ap (λ x. K.value x.0) (row_read mem es i e (found_within _ es i at)) ∙ eq_true K laws _ _ (passes_at (λ x. eq K (K.value x.0) v) es i e at))
 
 -- the place of a key, by its value
 pub key_place : {N V : Type 0} (K : Keys N V) (laws : Laws K.order) (es : List (N × RowHead)) (v : V) (i : ℕ) → Apart K.value es → i < length es

@@ -25,6 +25,13 @@ stands_within {r = r} s x h =
     let o = count_holds x _ (subst (λ n. 1 ≤ count x n.1) (row_read r.cells r.nodes.entries t.0 e l) (t.2 (e.0, _))) in
     omega (arith, o.2, (s.rings t.0 e l).ring.within o.0 o.1)
 
+-- the keys of the link p are a and b then, and the rows are as they were
+pub record Still {N V : Type 0} (value : N → V) (order : V → V → Ordering) (r r' : NodeRows N) (p : ℕ) (a b : N) : Type 0 where
+  pub stage : Stage value order r'
+  pub keys : keys_of r' ≡ wrote (keys_of r) p a b
+  pub rows : rows_of r' ≡ rows_of r
+  pub told : noded (keys_of r') (rows_of r') ≡ noded (keys_of r) (rows_of r)
+
 module _ {N V : Type 0} {value : N → V} {order : V → V → Ordering} {r : NodeRows N} (s : Stage value order r) (mem' : List (Cell N)) (p : ℕ) (a b : N)
     (en : nexts mem' ≡ nexts r.cells) (ep : prevs mem' ≡ prevs r.cells) (ek : cell_keys mem' ≡ wrote (keys_of r) p a b)
     (off : (x : ℕ) → x / 2 ≡ p → standing x (rows_of r) ≡ 0) where
@@ -34,7 +41,7 @@ module _ {N V : Type 0} {value : N → V} {order : V → V → Ordering} {r : No
   not_here : (x : ℕ) → 1 ≤ standing x (rows_of r) → x / 2 ≡ p → ⊥
   not_here x h e = let z = off x e in let no : ⊥ = omega arith in no
 
-  pub rows_still : rows_of then ≡ rows_of r
+  rows_still : rows_of then ≡ rows_of r
   rows_still = ap (λ ns. map (λ e. (e.0, walk (λ x. get_or ns x 0) e.1.first e.1.len)) r.nodes.entries) en
 
   owned_still : (d : N) → Owned (keys value order) d (keys_of then) (rows_of r)
@@ -44,7 +51,7 @@ module _ {N V : Type 0} {value : N → V} {order : V → V → Ordering} {r : No
       let u = stands_in_row d (rows_of r) i c l h in
       ap value (key_other d (keys_of r) p a b (twin c) (λ e. not_here c u (omega arith))) ∙ s.owned d i c l h)
 
-  pub stage_still : Stage value order then
+  stage_still : Stage value order then
   stage_still = record {
     apart = s.apart;
     fits = s.fits;
@@ -54,10 +61,13 @@ module _ {N V : Type 0} {value : N → V} {order : V → V → Ordering} {r : No
     owned = λ d. rw rows_still (owned_still d);
   }
 
-  pub noded_still : noded (keys_of then) (rows_of then) ≡ noded (keys_of r) (rows_of r)
+  noded_still : noded (keys_of then) (rows_of then) ≡ noded (keys_of r) (rows_of r)
   noded_still =
       (λ i. noded (ek i) (rows_still i))
       ∙ noded_agree a (keys_of r) (wrote (keys_of r) p a b) (rows_of r)
       (λ x h.
       let l : x < length (keys_of r) = omega (arith, length-map r.cells (λ c. c.key), stands_within s x h) in
       (l, omega (arith, length_wrote a (keys_of r) p a b), key_other a (keys_of r) p a b x (not_here x h)))
+
+  pub written : Still value order r then p a b
+  written = record { stage = stage_still; keys = ek; rows = rows_still; told = noded_still }

@@ -1,7 +1,8 @@
 -- The link of a cell that is shown is at half the cell's number.
-use Rattle.std.proofs.Common.{◌≡◌, ℕ, ◌*◌, ◌/◌, ◌<◌, ◌≤◌, true, List, [], ◌∷◌, ◌++◌, map, length, Some, Option, sym, refl, ap, ◌∙◌, ⊎_elim, arith}
+use Rattle.std.proofs.Common.{◌≡◌, ℕ, ◌*◌, ◌/◌, ◌<◌, ◌≤◌, true, List, [], ◌∷◌, ◌++◌, map, length, get_or, Some, Option, sym, refl, ap, ◌∙◌, ⊎_elim, arith}
 use Rattle.std.specs.List.{slice_get}
 use Rattle.std.proofs.lemmas.Bool.{or_cases, and_from}
+use Rattle.std.proofs.lemmas.Option.{slice_get-get_or}
 use Rattle.keys.specs.Order.{Laws}
 use Rattle.keys.specs.declared.kinds.Direction.{Direction}
 use Rattle.keys.specs.declared.kinds.Direction.TheVariants.{Outgoing, Incoming}
@@ -19,8 +20,8 @@ use Rattle.halfedges.specs.Cells.{count, named, Keyed}
 use Rattle.halfedges.proofs.Counts.{bit_same}
 use Rattle.halfedges.proofs.Told.{entry}
 use Rattle.halfedges.proofs.Links.{hit_place, own_place}
+use Rattle.adjacency.proofs.Entries.{some_of}
 use Rattle.graphmap.specs.Walks.{as_edge}
-use Rattle.graphmap.proofs.Lists.{nth_some}
 
 -- a link from a node to itself is the same in both directions
 along_itself : {N V : Type 0} (K : Keys N V) (k : Kind) (v : V) (s t : Direction) → along K k v v s ≡ along K k v v t
@@ -56,9 +57,10 @@ module _ {N V E : Type 0} (K : Keys N V) (n : N) (d : Direction) (s : State N E)
   edges_at_half (c ∷ xs) h =
       let here = h c (let b = bit_same c in omega arith) in
       let rest = edges_at_half xs (λ x o. h x (omega arith)) in
-      let l = nth_some s.links (c / 2) here.1 in
+      let x = get_or s.links (c / 2) (some_of s.links (c / 2) here.1) in
+      let at = slice_get-get_or s.links (c / 2) (some_of s.links (c / 2) here.1) here.1 in
       let ps = edges_to K n d s (map key xs) in
       let one : edge_to K (ends d n (key c)) s.links (position (is_link K (along K s.kind (K.value n) (K.value (key c)) d)) s.links)
-      ≡ edge_at K (ends d n (key c)) (c / 2) (Some l.0) =
-      ap (edge_to K (ends d n (key c)) s.links) here.0 ∙ ap (edge_at K (ends d n (key c)) (c / 2)) l.1 in
-      (λ i. as_edge (ends d n (key c)) (c / 2) (l.1 i) ∷ rest i) ∙ sym (ap (λ ys. map Some (ys ++ ps)) one)
+      ≡ edge_at K (ends d n (key c)) (c / 2) (Some x) =
+      ap (edge_to K (ends d n (key c)) s.links) here.0 ∙ ap (edge_at K (ends d n (key c)) (c / 2)) at in
+      (λ i. as_edge (ends d n (key c)) (c / 2) (at i) ∷ rest i) ∙ sym (ap (λ ys. map Some (ys ++ ps)) one)

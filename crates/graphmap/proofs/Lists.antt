@@ -3,6 +3,7 @@ use Rattle.std.proofs.Common.{◌≡◌, ℕ, zero, suc, ◌<◌, ◌≤◌, Boo
 use Rattle.std.specs.List.{slice_get}
 use Rattle.std.specs.Option.{option_map, option_flatten}
 use Rattle.std.proofs.lemmas.Bool.{cases_eq, cond-true, cond-false}
+use Rattle.std.proofs.lemmas.Option.{slice_get-map}
 use Rattle.model.specs.Lists.{found, kept}
 use Rattle.model.proofs.Tests.{by_bool}
 use Rattle.halfedges.specs.Cells.{count}
@@ -25,19 +26,10 @@ module _ {X Y : Type 0} (f : X → Y) where
   kept_map p [] = refl
   kept_map p (x ∷ xs) = ap (λ ys. cond (p (f x)) (f x ∷ ys) ys) (kept_map p xs) ∙ cond_map (p (f x)) x (kept (λ y. p (f y)) xs)
 
-  pub nth_map : (xs : List X) (k : ℕ) → slice_get (map f xs) k ≡ option_map f (slice_get xs k)
-  nth_map [] k = refl
-  nth_map (x ∷ xs) zero = refl
-  nth_map (x ∷ xs) (suc k) = nth_map xs k
-
 module _ {X Y Z : Type 0} (f : Y → Z) (g : X → Y) where
   pub mapped_mapped : (o : Option X) → option_map f (option_map g o) ≡ option_map (λ x. f (g x)) o
   mapped_mapped None = refl
   mapped_mapped (Some x) = refl
-
-  pub map_map : (xs : List X) → map f (map g xs) ≡ map (λ x. f (g x)) xs
-  map_map [] = refl
-  map_map (x ∷ xs) = ap (λ ys. f (g x) ∷ ys) (map_map xs)
 
 module _ {X : Type 0} where
   -- an element that was found has a place, and passes
@@ -57,15 +49,9 @@ module _ {X : Type 0} where
   kept_all p [] h = refl
   kept_all p (x ∷ xs) h = cond-true (p x) (x ∷ kept p xs) (kept p xs) (h x) ∙ ap (λ ys. x ∷ ys) (kept_all p xs h)
 
-  -- a place within has an element
-  pub nth_some : (xs : List X) (i : ℕ) → i < length xs → (x : X) × (slice_get xs i ≡ Some x)
-  nth_some [] i l = absurd (omega arith)
-  nth_some (x ∷ xs) zero l = (x, refl)
-  nth_some (x ∷ xs) (suc i) l = nth_some xs i (omega arith)
-
 -- an element by its place, through a map
 pub nth_through : {X Y : Type 0} (f : X → Y) (xs : List X) (ys : List Y) (k : ℕ) (r : Option X) → map f xs ≡ ys → r ≡ slice_get xs k → option_map f r ≡ slice_get ys k
-nth_through f xs ys k r e q = ap (option_map f) q ∙ sym (nth_map f xs k) ∙ ap (λ zs. slice_get zs k) e
+nth_through f xs ys k r e q = ap (option_map f) q ∙ sym (slice_get-map f xs k) ∙ ap (λ zs. slice_get zs k) e
 
 flattened_mapped : {X : Type 0} (o : Option X) → option_flatten (option_map Some o) ≡ o
 flattened_mapped None = refl
@@ -73,7 +59,7 @@ flattened_mapped (Some x) = refl
 
 -- the same where f gives each element an answer
 pub nth_answered : {X Y : Type 0} (f : X → Option Y) (xs : List X) (ys : List Y) (k : ℕ) (r : Option X) → map f xs ≡ map Some ys → r ≡ slice_get xs k → option_flatten (option_map f r) ≡ slice_get ys k
-nth_answered f xs ys k r e q = ap option_flatten (nth_through f xs (map Some ys) k r e q ∙ nth_map Some ys k) ∙ flattened_mapped (slice_get ys k)
+nth_answered f xs ys k r e q = ap option_flatten (nth_through f xs (map Some ys) k r e q ∙ slice_get-map Some ys k) ∙ flattened_mapped (slice_get ys k)
 
 -- the element at a place is one of the list
 pub count_place : (xs : List ℕ) (k c : ℕ) → Some c ≡ slice_get xs k → 1 ≤ count c xs

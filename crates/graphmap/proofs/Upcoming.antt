@@ -2,6 +2,7 @@
 use Rattle.std.proofs.Common.{◌≡◌, ℕ, zero, suc, ◌<◌, ◌≤◌, true, ltb, List, [], ◌∷◌, map, length, get_or, Some, None, Option, sym, refl, ap, ◌∙◌, subst, ⊎_elim, arith}
 use Rattle.std.specs.List.{slice_get}
 use Rattle.std.proofs.lemmas.List.{length-map}
+use Rattle.std.proofs.lemmas.Simd.{map-map}
 use Rattle.std.proofs.lemmas.Bool.{cases_lt, cases_eq, lt-ltb, le-ltb, cond-true, cond-false}
 use Rattle.keys.specs.declared.kinds.Direction.{Direction}
 use Rattle.keys.specs.declared.kinds.Direction.TheVariants.{Outgoing}
@@ -21,27 +22,20 @@ use Rattle.halfedges.specs.Cells.{count}
 use Rattle.halfedges.proofs.Counts.{bit_is, bit_other}
 use Rattle.halfedges.proofs.Told.{entry}
 use Rattle.graphmap.specs.Walks.{first_by, key_of}
-use Rattle.graphmap.proofs.Lists.{kept_map, kept_all, map_map, count_kept, count_place}
+use Rattle.graphmap.proofs.Lists.{kept_map, kept_all, count_kept, count_place}
 use Rattle.graphmap.proofs.NodeRows.{told_row}
 
--- the first of a list, by what a step gave
-module _ {X Y : Type 0} (f : X → Option Y) where
-  pub first_turned : (xs ys : List X) (r : Option X) (x : X) → ◌≡◌ {A = Option X × List X} (r, ys) (first_of xs) → r ≡ Some x → ◌≡◌ {A = Option Y × List X} (f x, ys) (first_by f xs)
-  first_turned [] ys r x e q =
-      let p = ap (λ (z : Option X × List X). z.0) e in
-      let z : ◌≡◌ {A = ℕ} 0 1 = cc in
-      absurd (omega arith)
-  first_turned (y ∷ zs) ys r x e q =
-      let p : Some x ≡ Some y = sym q ∙ ap (λ (z : Option X × List X). z.0) e in
-      let s : x ≡ y = cc in
-      λ i. (f (s i), (e i).1)
-
-  pub first_ended : (xs ys : List X) (r : Option X) → ◌≡◌ {A = Option X × List X} (r, ys) (first_of xs) → r ≡ None → ◌≡◌ {A = Option Y × List X} (None, ys) (first_by f xs)
-  first_ended [] ys r e q = λ i. (None, (e i).1)
-  first_ended (y ∷ zs) ys r e q =
-      let p = ap (λ (z : Option X × List X). z.0) e in
-      let z : ◌≡◌ {A = ℕ} 0 1 = cc in
-      absurd (omega arith)
+-- the first of a list, by what a step gave: y
+pub first_turned : {X Y : Type 0} (f : X → Option Y) (xs ys : List X) (r : Option X) (x : X) (y : Option Y) → ◌≡◌ {A = Option X × List X} (r, ys) (first_of xs) → r ≡ Some x → y ≡ f x
+    → ◌≡◌ {A = Option Y × List X} (y, ys) (first_by f xs)
+first_turned {X} f [] ys r x y e q p =
+    let n = ap (λ (z : Option X × List X). z.0) e in
+    let z : ◌≡◌ {A = ℕ} 0 1 = cc in
+    absurd (omega arith)
+first_turned {X} f (v ∷ vs) ys r x y e q p =
+    let n : Some x ≡ Some v = sym q ∙ ap (λ (z : Option X × List X). z.0) e in
+    let s : x ≡ v = cc in
+    λ i. ((p ∙ ap f s) i, (e i).1)
 
 first_count : (xs ys : List ℕ) (r : Option ℕ) (c : ℕ) → ◌≡◌ {A = Option ℕ × List ℕ} (r, ys) (first_of xs) → r ≡ Some c → 1 ≤ count c xs
 first_count [] ys r c e q =
@@ -93,7 +87,7 @@ module _ {N V : Type 0} (K : Keys N V) (e : N) (mem : List (Cell N)) (kind : Kin
     upcoming_keys =
         let f = entry e (cell_keys mem) in
         ap (map (key_of e mem)) upcoming_row
-        ∙ sym (map_map (λ (x : N × Direction). x.0) f (kept (showing K e mem kind d v) (listed mem h)))
+        ∙ sym (map-map (λ (x : N × Direction). x.0) f (kept (showing K e mem kind d v) (listed mem h)))
         ∙ ap (map (λ x. x.0)) (sym (kept_map f (shown K kind d v) (listed mem h)) ∙ ap (kept (shown K kind d v)) (sym (told_row e mem h linked)))
 
 -- in an Undirected map any direction shows every entry

@@ -80,44 +80,34 @@ module _ {N V : Type 0} (K : Keys N V) (laws : Laws K.order) (d : N) (ks : List 
       (λ o. stands_even K d ks n (twin c) (twin_below c n l) (omega arith))
       (cases_eq (c % 2) 0)
 
-  -- the cells of the link stand nowhere when both have left, or the one of a self-link
-  pub off_both : (n c : ℕ) (ns ns' : List (N × List ℕ)) → Whole K d ks n ns → ((x : ℕ) → standing x ns' + bit (eqb x c) + bit (eqb x (twin c)) ≡ standing x ns) → Off K d ks (c / 2) n ns'
-  off_both n c ns ns' whole s = record {
-    out = λ x e.
-        let t = s x in
-        let w = whole x in
-        let m = stands_most K d ks n x in
-        ⊎_elim
-        (λ q. let b = bit_is x c q in let f = bit_other x (twin c) (λ r. omega arith) in omega arith)
-        (λ ne. let b = bit_other x c ne in let f = bit_is x (twin c) (omega arith) in omega arith)
-        (cases_eq x c);
-    others = λ x ne.
-        let t = s x in
-        let b = bit_other x c (λ q. ne (omega arith)) in
-        let f = bit_other x (twin c) (λ q. ne (omega arith)) in
-        let w = whole x in
-        omega arith;
+  -- the cells of the link stand nowhere when `away` says that they have left
+  off_gone : (n g : ℕ) (ns ns' : List (N × List ℕ)) (away : ℕ → ℕ) → Whole K d ks n ns → ((x : ℕ) → standing x ns' + away x ≡ standing x ns) → ((x : ℕ) → x / 2 ≡ g → stands K d ks n x ≤ away x)
+      → ((x : ℕ) → (x / 2 ≡ g → ⊥) → away x ≡ 0) → Off K d ks g n ns'
+  off_gone n g ns ns' away whole s gone stay = record {
+    out = λ x e. let t = s x in let w = whole x in let m = gone x e in omega arith;
+    others = λ x ne. let t = s x in let w = whole x in let m = stay x ne in omega arith;
   }
 
+  -- so when both have left, or the one of a self-link
+  pub off_both : (n c : ℕ) (ns ns' : List (N × List ℕ)) → Whole K d ks n ns → ((x : ℕ) → standing x ns' + bit (eqb x c) + bit (eqb x (twin c)) ≡ standing x ns) → Off K d ks (c / 2) n ns'
+  off_both n c ns ns' whole s =
+      off_gone n (c / 2) ns ns' (λ x. bit (eqb x c) + bit (eqb x (twin c))) whole (λ x. let t = s x in omega arith)
+      (λ x e.
+      let m = stands_most K d ks n x in
+      ⊎_elim (λ q. let b = bit_is x c q in omega arith) (λ ne. let f = bit_is x (twin c) (omega arith) in omega arith) (cases_eq x c))
+      (λ x ne. let b = bit_other x c (λ q. ne (omega arith)) in let f = bit_other x (twin c) (λ q. ne (omega arith)) in omega arith)
+
   pub off_self : (n c : ℕ) (ns ns' : List (N × List ℕ)) → Whole K d ks n ns → 1 ≤ stands K d ks n c → named K d ks c ≡ named K d ks (twin c) → ((x : ℕ) → standing x ns' + bit (eqb x c) ≡ standing x ns) → Off K d ks (c / 2) n ns'
-  off_self n c ns ns' whole h self s = record {
-    out = λ x e.
-        let t = s x in
-        let w = whole x in
-        let m = stands_most K d ks n x in
-        ⊎_elim
-        (λ q. let b = bit_is x c q in omega arith)
-        (λ ne.
-        let b = bit_other x c ne in
-        let even : c % 2 ≡ 0 = ⊎_elim (λ z. z) (λ z. absurd (let y = stands_self K d laws ks n c (omega arith) self in let no : ⊥ = omega arith in no)) (cases_eq (c % 2) 0) in
-        let is : x ≡ twin c = omega arith in
-        let back : twin x ≡ c = omega arith in
-        let y = stands_self K d laws ks n x (omega arith) (ap (named K d ks) is ∙ sym self ∙ sym (ap (named K d ks) back)) in
-        omega arith)
-        (cases_eq x c);
-    others = λ x ne.
-        let t = s x in
-        let b = bit_other x c (λ q. ne (omega arith)) in
-        let w = whole x in
-        omega arith;
-  }
+  off_self n c ns ns' whole h self s =
+      off_gone n (c / 2) ns ns' (λ x. bit (eqb x c)) whole s
+      (λ x e.
+      ⊎_elim
+      (λ q. let m = stands_most K d ks n x in let b = bit_is x c q in omega arith)
+      (λ ne.
+      let even : c % 2 ≡ 0 = ⊎_elim (λ z. z) (λ z. absurd (let y = stands_self K d laws ks n c (omega arith) self in let no : ⊥ = omega arith in no)) (cases_eq (c % 2) 0) in
+      let is : x ≡ twin c = omega arith in
+      let back : twin x ≡ c = omega arith in
+      let y = stands_self K d laws ks n x (omega arith) (ap (named K d ks) is ∙ sym self ∙ sym (ap (named K d ks) back)) in
+      omega arith)
+      (cases_eq x c))
+      (λ x ne. bit_other x c (λ q. ne (omega arith)))

@@ -14,11 +14,6 @@ use Rattle.halfedges.specs.Cells.{standing, moved, named, stands, Whole, Off, Ke
 use Rattle.halfedges.proofs.Counts.{bit_is, bit_other}
 use Rattle.halfedges.proofs.Stands.{stands_out, stands_even, stands_odd, stands_keys, stands_fewer, key_other, key_first, key_second, named_second, owner_second}
 
--- the keys of the last link written over its own
-pub moved_itself : {N : Type 0} (ks : List N) (d : N) (l : ℕ) → moved ks d l l ≡ ks
-moved_itself ks d l =
-    ap (λ z. set z (2 * l + 1) (get_or ks (2 * l + 1) d)) (set-get_or ks (2 * l) d) ∙ set-get_or ks (2 * l + 1) d
-
 module _ {N V : Type 0} (K : Keys N V) (d : N) (ks : List N) (g l : ℕ) (ns : List (N × List ℕ)) (off : Off K d ks g (l + 1) ns) where
   -- where the last link has gone, nothing is moved
   pub whole_last : g ≡ l → Whole K d ks l ns

@@ -1,5 +1,5 @@
 -- What a write leaves of the chains.
-use Rattle.std.proofs.Common.{◌≡◌, ℕ, suc, ◌<◌, ◌≤◌, sym, ap, ◌∙◌, inl, inr, arith}
+use Rattle.std.proofs.Common.{◌≡◌, ℕ, suc, ◌<◌, ◌≤◌, sym, refl, ap, ◌∙◌, inl, inr, arith}
 use Rattle.std.proofs.lemmas.Bool.{cases_eq, cases_lt}
 use Rattle.lists.specs.Latest.{latest}
 use Rattle.lists.specs.Chains.{Chains, Above, Put}
@@ -105,49 +105,52 @@ module _ (none buckets n b g p : ℕ) (h h' : ℕ → ℕ) (le : n ≤ none) (A 
   pub holder_gets : latest none h' b p ≡ latest none h b g
   holder_gets = drop_here none b g h h' ho (λ e. omega arith) p A.past holder_has
 
+-- what is written at the holder p of bucket b is right, place g is, and the other buckets and links are as before
+rechained : (none buckets n b g p v : ℕ) (h f x h' f' x₁ x' : ℕ → ℕ) → Chains none buckets n h f x → Above n h b g p → Put n b p v f x₁ f' x' → v ≡ latest none h' b p
+    → ((i : ℕ) → (i ≡ g → ⊥) → h' i ≡ h i) → ((i : ℕ) → (i ≡ g → ⊥) → x₁ i ≡ x i) → ((i : ℕ) → i ≡ g → h' i < buckets → x' i ≡ latest none h' (h' i) i)
+    → ((c : ℕ) → c < buckets → (c ≡ b → n ≡ p → ⊥) → latest none h' c n ≡ latest none h c n)
+    → ((i : ℕ) → i < n → h i < buckets → (i ≡ g → ⊥) → (i ≡ p → ⊥) → latest none h' (h i) i ≡ latest none h (h i) i)
+    → Chains none buckets n h' f' x'
+rechained none buckets n b g p v h f x h' f' x₁ x' L A P new ho xo own last_kept link_kept = record {
+  heads = λ c cn.
+      elim (cases_eq c b) [
+        | inl q ↦ elim (cases_lt p n) [
+          | inl pn ↦ P.heads c (λ e _. omega arith) ∙ (L.heads c cn ∙ sym (last_kept c cn (λ _ e. omega arith)))
+          | inr np ↦
+              let e : p ≡ n = omega (arith, A.within) in
+              ap f' q ∙ (P.head e ∙ (new ∙ (ap (latest none h' b) e ∙ ap (λ z. latest none h' z n) (sym q))))
+        ]
+        | inr ne ↦ P.heads c (λ _ q. ne q) ∙ (L.heads c cn ∙ sym (last_kept c cn (λ q. absurd (ne q))))
+      ];
+  links = λ i lt hl.
+      elim (cases_eq i g) [
+        | inl q ↦ own i q hl
+        | inr ng ↦ elim (cases_eq i p) [
+          | inl q ↦
+              let e : h' i ≡ b = ho i ng ∙ (ap h q ∙ A.here (omega arith)) in
+              ap x' q
+              ∙ (P.link (omega arith) ∙ (new ∙ (ap (λ z. latest none h' z p) (sym e) ∙ ap (latest none h' (h' i)) (sym q))))
+          | inr np ↦
+              let e = ho i ng in
+              let hi : h i < buckets = omega arith in
+              P.links i np ∙ (xo i ng ∙ (L.links i lt hi ∙ (sym (link_kept i lt hi ng np) ∙ ap (λ z. latest none h' z i) (sym e))))
+        ]
+      ];
+}
+
 -- place g leaves bucket b
 pub unlinked : (none buckets n b g p v : ℕ) (h f x h' f' x' : ℕ → ℕ) → n ≤ none → Chains none buckets n h f x → Above n h b g p
     → g < n → b < buckets → h g ≡ b → v ≡ x g → Put n b p v f x f' x' → buckets ≤ h' g
     → ((i : ℕ) → (i ≡ g → ⊥) → h' i ≡ h i) → Chains none buckets n h' f' x'
 unlinked none buckets n b g p v h f x h' f' x' le L A gn bn hb ev P hn ho =
-    let kept : (c i : ℕ) → c < buckets → i ≤ n → (c ≡ b → i < n → h i ≡ b) → (c ≡ b → i ≡ p → ⊥)
-    → latest none h' c i ≡ latest none h c i =
+    let kept : (c i : ℕ) → c < buckets → i ≤ n → (c ≡ b → i < n → h i ≡ b) → (c ≡ b → i ≡ p → ⊥) → latest none h' c i ≡ latest none h c i =
     others_keep none buckets n b g p h h' le A gn hb hn ho bn in
     let new : v ≡ latest none h' b p =
     ev
     ∙ (L.links g gn (omega arith)
     ∙ (ap (λ z. latest none h z g) hb ∙ sym (holder_gets none buckets n b g p h h' le A gn hb hn ho bn))) in
-    record {
-      heads = λ c cn.
-          elim (cases_eq c b) [
-            | inl q ↦ elim (cases_lt p n) [
-              | inl pn ↦
-                  P.heads c (λ e _. omega arith)
-                  ∙ (L.heads c cn ∙ sym (kept c n cn (omega arith) (λ _ lt. omega arith) (λ _ e. omega arith)))
-              | inr np ↦
-                  let e : p ≡ n = omega (arith, A.within) in
-                  ap f' q ∙ (P.head e ∙ (new ∙ (ap (latest none h' b) e ∙ ap (λ z. latest none h' z n) (sym q))))
-            ]
-            | inr ne ↦
-                P.heads c (λ _ q. ne q)
-                ∙ (L.heads c cn ∙ sym (kept c n cn (omega arith) (λ q. absurd (ne q)) (λ q. absurd (ne q))))
-          ];
-      links = λ i lt hl.
-          elim (cases_eq i g) [
-            | inl q ↦ omega (arith, ap h' q)
-            | inr ng ↦ elim (cases_eq i p) [
-              | inl q ↦
-                  let e : h' i ≡ b = ho i ng ∙ (ap h q ∙ A.here (omega arith)) in
-                  ap x' q
-                  ∙ (P.link (omega arith) ∙ (new ∙ (ap (λ z. latest none h' z p) (sym e) ∙ ap (latest none h' (h' i)) (sym q))))
-              | inr np ↦
-                  let e = ho i ng in
-                  P.links i np
-                  ∙ (L.links i lt (omega arith)
-                  ∙ (sym (kept (h i) i (omega arith) (omega arith) (λ q _. q) (λ _. np)) ∙ ap (λ z. latest none h' z i) (sym e)))
-            ]
-          ];
-    }
+    rechained none buckets n b g p v h f x h' f' x x' L A P new ho (λ i ne. refl) (λ i q hl. omega (arith, ap h' q))
+    (λ c cn ne. kept c n cn (omega arith) (λ _ lt. omega arith) ne) (λ i lt hi ng np. kept (h i) i hi (omega arith) (λ q _. q) (λ _. np))
 
 -- place g, which is in none, joins bucket b; `old` is what its holder p had
 pub linked : (none buckets n b g p old : ℕ) (h f x h' f' x' x'' : ℕ → ℕ) → n ≤ none → Chains none buckets n h f x → Above n h b g p
@@ -162,45 +165,15 @@ linked none buckets n b g p old h f x h' f' x' x'' le L A gn bn hg eo xg xo P hb
       here = λ lt. ho p (omega (arith, A.past)) ∙ A.here lt;
       between = λ i lo hi e. A.between i lo hi (sym (ho i (omega arith)) ∙ e);
     } in
-    let kept : (c i : ℕ) → c < buckets → i ≤ n → (c ≡ b → i < n → h' i ≡ b) → (c ≡ b → i ≡ p → ⊥)
-    → latest none h c i ≡ latest none h' c i =
+    let kept : (c i : ℕ) → c < buckets → i ≤ n → (c ≡ b → i < n → h' i ≡ b) → (c ≡ b → i ≡ p → ⊥) → latest none h c i ≡ latest none h' c i =
     others_keep none buckets n b g p h' h le A' gn hb hg oh bn in
     let has : latest none h' b p ≡ g = holder_has none buckets n b g p h' h le A' gn hb hg oh bn in
-    record {
-      heads = λ c cn.
-          elim (cases_eq c b) [
-            | inl q ↦ elim (cases_lt p n) [
-              | inl pn ↦
-                  P.heads c (λ e _. omega arith)
-                  ∙ (L.heads c cn ∙ kept c n cn (omega arith) (λ _ lt. omega arith) (λ _ e. omega arith))
-              | inr np ↦
-                  let e : p ≡ n = omega (arith, A.within) in
-                  ap f' q ∙ (P.head e ∙ (sym has ∙ (ap (latest none h' b) e ∙ ap (λ z. latest none h' z n) (sym q))))
-            ]
-            | inr ne ↦
-                P.heads c (λ _ q. ne q)
-                ∙ (L.heads c cn ∙ kept c n cn (omega arith) (λ q. absurd (ne q)) (λ q. absurd (ne q)))
-          ];
-      links = λ i lt hl.
-          elim (cases_eq i g) [
-            | inl q ↦
-                P.links i (omega (arith, A.past))
-                ∙ (ap x' q
-                ∙ (xg
-                ∙ (eo
-                ∙ (holder_gets none buckets n b g p h' h le A' gn hb hg oh bn
-                ∙ (ap (λ z. latest none h' z g) (sym hb) ∙ ap (λ z. latest none h' (h' z) z) (sym q))))))
-            | inr ng ↦ elim (cases_eq i p) [
-              | inl q ↦
-                  let e : h' i ≡ b = ho i ng ∙ (ap h q ∙ A.here (omega arith)) in
-                  ap x'' q
-                  ∙ (P.link (omega arith) ∙ (sym has ∙ (ap (λ z. latest none h' z p) (sym e) ∙ ap (latest none h' (h' i)) (sym q))))
-              | inr np ↦
-                  let e = ho i ng in
-                  P.links i np
-                  ∙ (xo i ng
-                  ∙ (L.links i lt (omega arith)
-                  ∙ (kept (h i) i (omega arith) (omega arith) (λ q _. e ∙ q) (λ _. np) ∙ ap (λ z. latest none h' z i) (sym e))))
-            ]
-          ];
-    }
+    rechained none buckets n b g p g h f x h' f' x' x'' L A P (sym has) ho xo
+    (λ i q hl.
+    P.links i (omega (arith, A.past))
+    ∙ (ap x' q
+    ∙ (xg
+    ∙ (eo
+    ∙ (holder_gets none buckets n b g p h' h le A' gn hb hg oh bn
+    ∙ (ap (λ z. latest none h' z g) (sym hb) ∙ ap (λ z. latest none h' (h' z) z) (sym q)))))))
+    (λ c cn ne. sym (kept c n cn (omega arith) (λ _ lt. omega arith) ne)) (λ i lt hi ng np. sym (kept (h i) i hi (omega arith) (λ q _. ho i ng ∙ q) (λ _. np)))

@@ -1,58 +1,45 @@
-use Rattle.std.proofs.Common.{◌<◌, length, sym, ap, ◌∙◌, subst, arith}
+use Rattle.std.proofs.Common.{◌≡◌, ℕ, ◌<◌, length, sym, ap, ◌∙◌, subst, arith}
 use Rattle.lists.specs.Swap.{swap_removed}
 use Rattle.model.specs.Keys.{keys}
 use Rattle.rows.specs.Rings.{nth}
+use Rattle.rows.specs.Links.{listed}
 use Rattle.rows.proofs.Lists.{listed_length}
-use Rattle.halfedges.specs.Cells.{row_at, put_row}
-use Rattle.adjacency.specs.Stages.{NodeRows, rows_of, keys_of}
-use Rattle.adjacency.proofs.RowEdits.{place_row, head_linked, head_held, off_here, row_was, row_put, row_kept}
+use Rattle.halfedges.specs.Cells.{row_at}
+use Rattle.adjacency.specs.Stages.{rows_of, keys_of}
+use Rattle.adjacency.proofs.RowEdits.{Edited, opened, place_row, head_linked, head_held, off_here, row_was, edited}
 use Rattle.adjacency.proofs.Gains.{gained_less}
+use Rattle.adjacency.proofs.adjacency.Adjacency.leave.Given as given
 use Rattle.adjacency.proofs.adjacency.Adjacency.leave.Goals as goal
 
 pub swap_remove-requires : goal.swap_remove-requires
 swap_remove-requires g c =
-    let is = c.self.view_is in
-    let s = c.self.invariant in
-    let p = c.requires in
-    let read = c.value_at-row.ensures in
-    record {
-      linked = head_linked is s p.place read;
-      held = head_held is s p.place read c.args.c p.held;
-    }
+    let o = opened c.self.view_is c.self.invariant c.requires.place c.value_at-row.ensures in
+    record { linked = head_linked o; held = head_held o c.args.c c.requires.held }
+
+left : (g : given.Over) (c : goal.After-set_value g) (k : ℕ) → k < length (listed c.self.inside.rows c.value_at-row.result) → nth (listed c.self.inside.rows c.value_at-row.result) k ≡ c.args.c
+    → Edited g.N.NodeTrait.value g.N.NodeTrait.order c.args.self.now (record { nodes = c.set_value.new.self; cells = c.swap_remove.new.self }) c.args.i
+    (λ d. swap_removed (row_at (rows_of c.args.self.now) c.args.i d) k)
+left g c k lk at =
+    let o = opened c.self.view_is c.self.invariant c.requires.place c.value_at-row.ensures in
+    let a = c.swap_remove.ensures in
+    edited o _ c.set_value.ensures.done c.set_value.ensures.room a.linked a.kept (off_here o) _
+    (λ d. a.list k (omega (arith, lk, listed_length c.self.inside.rows c.value_at-row.result)) at ∙ ap (λ xs. swap_removed xs k) (sym (row_was o d)))
+    (λ d.
+    let w = row_was o d in
+    gained_less (keys g.N.NodeTrait.value g.N.NodeTrait.order) d (keys_of c.args.self.now) (rows_of c.args.self.now) c.args.i (place_row o) k c.args.c (subst (λ xs. k < length xs) (sym w) lk) (ap (λ xs. nth xs k) w ∙ at))
 
 pub invariant_of-self : goal.invariant_of-self
 invariant_of-self g c =
-    let is = c.self.view_is in
-    let s = c.self.invariant in
-    let p = c.requires in
-    let read = c.value_at-row.ensures in
-    let a = c.swap_remove.ensures in
-    let t = c.set_value.ensures in
-    let now : NodeRows g.row.N.Denot = c.args.self.now in
-    let r' : NodeRows g.row.N.Denot = record { nodes = c.set_value.new.self; cells = c.swap_remove.new.self } in
-    let h = head_held is s p.place read c.args.c p.held in
-    row_kept is s p.place read r' t.done t.room a.linked a.kept (off_here is s p.place read)
-    (λ d. swap_removed (row_at (rows_of now) c.args.i d) h.0) (λ d. a.list h.0 (omega (arith, h.1, listed_length c.self.inside.rows c.value_at-row.result)) h.2 ∙ ap (λ xs. swap_removed xs h.0) (sym (row_was is s p.place read d)))
-    (λ d.
-    let w = row_was is s p.place read d in
-    gained_less (keys g.N.NodeTrait.value g.N.NodeTrait.order) d (keys_of now) (rows_of now) c.args.i (place_row is s p.place read) h.0 c.args.c (subst (λ xs. h.0 < length xs) (sym w) h.1) (ap (λ xs. nth xs h.0) w ∙ h.2))
+    let h = head_held (opened c.self.view_is c.self.invariant c.requires.place c.value_at-row.ensures) c.args.c c.requires.held in
+    (left g c h.0 h.1 h.2).stage
 
 pub returns : goal.returns
 returns g c =
-    let is = c.self.view_is in
-    let s = c.self.invariant in
-    let p = c.requires in
-    let read = c.value_at-row.ensures in
-    let a = c.swap_remove.ensures in
-    let t = c.set_value.ensures in
-    let now : NodeRows g.row.N.Denot = c.args.self.now in
-    let r' : NodeRows g.row.N.Denot = record { nodes = c.set_value.new.self; cells = c.swap_remove.new.self } in
+    let o = opened c.self.view_is c.self.invariant c.requires.place c.value_at-row.ensures in
+    let h = head_held o c.args.c c.requires.held in
+    let e = left g c h.0 h.1 h.2 in
     record {
-      room = t.room ∙ ap (λ z. z.nodes.room) is;
-      keys = a.kept.keys ∙ ap keys_of is;
-      rows = λ d k lk at.
-          let w = row_was is s p.place read d in
-          row_put is s p.place read r' t.done t.room a.linked a.kept (off_here is s p.place read) d
-          ∙ ap (put_row (rows_of now) c.args.i d)
-          (a.list k (omega (arith, lk, ap length w, listed_length c.self.inside.rows c.value_at-row.result)) (ap (λ xs. nth xs k) (sym w) ∙ at) ∙ ap (λ xs. swap_removed xs k) (sym w));
+      room = e.room;
+      keys = e.keys;
+      rows = λ d k lk at. let w = row_was o d in (left g c k (omega (arith, lk, ap length w)) (ap (λ xs. nth xs k) (sym w) ∙ at)).rows d;
     }

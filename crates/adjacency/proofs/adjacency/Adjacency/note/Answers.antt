@@ -4,41 +4,34 @@ use Rattle.lists.proofs.Positions.{found_within}
 use Rattle.table.specs.Tables.{found, vacancy}
 use Rattle.model.specs.Keys.{keys, eq}
 use Rattle.model.specs.Maps.{at_row}
-use Rattle.model.proofs.Tests.{eq_true}
-use Rattle.model.proofs.Positions.{passes_at, position_map}
-use Rattle.rows.specs.declared.cells.RowHead.{RowHead}
+use Rattle.model.proofs.Positions.{position_map}
 use Rattle.rows.specs.HalfEdges.{side, twin}
-use Rattle.rows.specs.Links.{bare, cell_keys}
+use Rattle.rows.specs.Links.{cell_keys}
 use Rattle.halfedges.specs.Cells.{standing, named, noded, row_at}
 use Rattle.halfedges.proofs.Rows.{length_put, noded_at_row, position_put}
 use Rattle.halfedges.proofs.Told.{told_push}
 use Rattle.adjacency.specs.Stages.{NodeRows, rows_of, keys_of}
 use Rattle.adjacency.specs.Seats.{vacant}
-use Rattle.adjacency.proofs.Entries.{rowed_length, row_read}
+use Rattle.adjacency.proofs.Entries.{rowed_length}
 use Rattle.adjacency.proofs.Gains.{pushed_standing}
+use Rattle.adjacency.proofs.Owners.{owner_at}
 use Rattle.adjacency.proofs.Seating.{node_position, noded_then, standing_then, seated_length, seated_other}
 use Rattle.adjacency.proofs.adjacency.Adjacency.note.Goals as goal
 
 pub enter-requires : goal.enter-requires
 enter-requires g c =
     let K = keys g.N.NodeTrait.value g.N.NodeTrait.order in
-    let r : NodeRows g.row.N.Denot = c.args.self.now in
-    let r₁ : NodeRows g.row.N.Denot = c.seat-i.new.self in
-    let n = c.args.n in
-    let x = c.args.c in
-    let i = c.seat-i.result in
     let s = c.seat-i.ensures in
-    let place : i < length r₁.nodes.entries = found_within _ r₁.nodes.entries i s.there in
-    let keys_same : keys_of r₁ ≡ keys_of r = ap cell_keys s.cells in
+    let r₁ : NodeRows g.row.N.Denot = c.seat-i.new.self in
+    let keys_same : keys_of r₁ ≡ keys_of c.args.self.now = ap cell_keys s.cells in
     record {
-      place = place;
+      place = found_within _ r₁.nodes.entries c.seat-i.result s.there;
       within = omega (arith, c.requires.within, ap length keys_same);
-      fresh = standing_then K n r r₁ s.cells s.seated x ∙ c.requires.fresh;
+      fresh = standing_then K c.args.n c.args.self.now r₁ s.cells s.seated c.args.c ∙ c.requires.fresh;
       own = λ d.
-          let e : g.row.N.Denot × RowHead = (d, bare) in
-          ap (λ ks. named K d ks (twin x)) keys_same
+          ap (λ ks. named K d ks (twin c.args.c)) keys_same
           ∙ c.requires.own d
-          ∙ sym (ap (λ z. K.value z.0) (row_read r₁.cells r₁.nodes.entries i e place) ∙ eq_true K g.met.N.NodeTrait.ordered _ _ (passes_at (λ z. eq K (K.value z.0) (K.value n)) r₁.nodes.entries i e s.there));
+          ∙ owner_at K g.met.N.NodeTrait.ordered r₁.cells r₁.nodes.entries _ c.seat-i.result s.there d;
     }
 
 pub returns : goal.returns

@@ -1,12 +1,10 @@
-use Rattle.std.proofs.Common.{◌+◌, ◌*◌, ◌<◌, ◌==◌, sym, ap, ◌∙◌, arith}
+use Rattle.std.proofs.Common.{◌+◌, ◌*◌, ◌<◌, sym, ap, ◌∙◌, arith}
 use Rattle.keys.specs.Laws.{equal_alike}
 use Rattle.model.specs.Keys.{keys}
-use Rattle.model.specs.Lists.{bit}
 use Rattle.halfedges.specs.Cells.{standing}
-use Rattle.halfedges.proofs.Counts.{bit_other}
 use Rattle.halfedges.proofs.Moves.{whole_last}
 use Rattle.adjacency.specs.Stages.{rows_of, keys_of}
-use Rattle.adjacency.proofs.Settled.{key_now, last_first, last_second, settled_one, settled_two}
+use Rattle.adjacency.proofs.Settled.{last, shifted, shifted_other, last_first, last_second, settled_one, settled_two}
 use Rattle.adjacency.proofs.adjacency.Adjacency.settle.Goals as goal
 
 pub returns-then-g-l-clause-whole : goal.returns-then-g-l-clause-whole
@@ -17,59 +15,30 @@ pub write_link-requires-clause-off : goal.write_link-requires-clause-off
 write_link-requires-clause-off g c = (c.requires.off c.key-first.result).out
 
 pub shift-requires-clause-held : goal.shift-requires-clause-held
-shift-requires-clause-held g c =
-    let K = keys g.N.NodeTrait.value g.N.NodeTrait.order in
-    let lt : c.args.g < c.args.l = omega (arith, c.if-g-l.false, c.requires.order) in
-    let first = key_now c.self.view_is (2 * c.args.l) c.key-first.ensures in
-    let second = key_now c.self.view_is (2 * c.args.l + 1) c.key-second.ensures in
-    ap (standing (2 * c.args.l)) c.write_link.ensures.rows ∙ last_first K c.requires.off lt c.requires.within first second
+shift-requires-clause-held g c = ap (standing (2 * c.args.l)) c.write_link.ensures.rows ∙ last_first (last c.self.view_is c.requires.off c.requires.within c.requires.order c.if-g-l.false c.key-first.ensures c.key-second.ensures)
 
 pub shift-requires-clause-fresh : goal.shift-requires-clause-fresh
 shift-requires-clause-fresh g c = ap (standing (2 * c.args.g)) c.write_link.ensures.rows ∙ (c.requires.off c.key-first.result).out (2 * c.args.g) (omega arith)
 
 pub returns-then-eq-clause-whole : goal.returns-then-eq-clause-whole
 returns-then-eq-clause-whole g c =
-    let K = keys g.N.NodeTrait.value g.N.NodeTrait.order in
-    let lt : c.args.g < c.args.l = omega (arith, c.if-g-l.false, c.requires.order) in
-    let first = key_now c.self.view_is (2 * c.args.l) c.key-first.ensures in
-    let second = key_now c.self.view_is (2 * c.args.l + 1) c.key-second.ensures in
     let w = c.write_link.ensures in
     let same = sym (c.eq.ensures ∙ equal_alike g.N.NodeTrait.value g.N.NodeTrait.order g.met.N.NodeTrait.compares g.met.N.Ord.matches_eq _ _) ∙ c.if-eq.true in
-    settled_one K c.requires.off lt c.requires.within first second (c.shift.ensures.keys ∙ w.keys) (λ x. standing x (rows_of c.shift.new.self))
-    (λ x. c.shift.ensures.standing x ∙ ap (λ z. standing x z + bit (x == 2 * c.args.g)) w.rows) same
+    settled_one (last c.self.view_is c.requires.off c.requires.within c.requires.order c.if-g-l.false c.key-first.ensures c.key-second.ensures) (c.shift.ensures.keys ∙ w.keys) (λ x. standing x (rows_of c.shift.new.self)) (shifted _ _ _ w.rows c.shift.ensures.standing) same
 
 pub shift-requires-2-clause-held : goal.shift-requires-2-clause-held
 shift-requires-2-clause-held g c =
-    let K = keys g.N.NodeTrait.value g.N.NodeTrait.order in
-    let lt : c.args.g < c.args.l = omega (arith, c.if-g-l.false, c.requires.order) in
-    let first = key_now c.self.view_is (2 * c.args.l) c.key-first.ensures in
-    let second = key_now c.self.view_is (2 * c.args.l + 1) c.key-second.ensures in
     let same = sym (c.eq.ensures ∙ equal_alike g.N.NodeTrait.value g.N.NodeTrait.order g.met.N.NodeTrait.compares g.met.N.Ord.matches_eq _ _) ∙ c.if-eq.false in
-    let x = 2 * c.args.l + 1 in
-    let s = c.shift.ensures.standing x in
-    let z = ap (standing x) c.write_link.ensures.rows ∙ last_second K c.requires.off lt c.requires.within first second same in
-    let u = bit_other x (2 * c.args.l) (λ e. omega arith) in
-    let v = bit_other x (2 * c.args.g) (λ e. omega arith) in
-    omega arith
+    shifted_other _ _ _ c.write_link.ensures.rows c.shift.ensures.standing (2 * c.args.l + 1) (λ e. omega arith) (λ e. omega (arith, c.if-g-l.false, c.requires.order)) ∙ last_second (last c.self.view_is c.requires.off c.requires.within c.requires.order c.if-g-l.false c.key-first.ensures c.key-second.ensures) same
 
 pub shift-requires-2-clause-fresh : goal.shift-requires-2-clause-fresh
 shift-requires-2-clause-fresh g c =
-    let lt : c.args.g < c.args.l = omega (arith, c.if-g-l.false, c.requires.order) in
     let x = 2 * c.args.g + 1 in
-    let s = c.shift.ensures.standing x in
-    let z = ap (standing x) c.write_link.ensures.rows ∙ (c.requires.off c.key-first.result).out x (omega arith) in
-    let u = bit_other x (2 * c.args.l) (λ e. omega arith) in
-    let v = bit_other x (2 * c.args.g) (λ e. omega arith) in
-    omega arith
+    shifted_other _ _ _ c.write_link.ensures.rows c.shift.ensures.standing x (λ e. omega (arith, c.if-g-l.false, c.requires.order)) (λ e. omega arith) ∙ (c.requires.off c.key-first.result).out x (omega arith)
 
 pub returns-clause-whole : goal.returns-clause-whole
 returns-clause-whole g c =
-    let K = keys g.N.NodeTrait.value g.N.NodeTrait.order in
-    let lt : c.args.g < c.args.l = omega (arith, c.if-g-l.false, c.requires.order) in
-    let first = key_now c.self.view_is (2 * c.args.l) c.key-first.ensures in
-    let second = key_now c.self.view_is (2 * c.args.l + 1) c.key-second.ensures in
     let w = c.write_link.ensures in
     let same = sym (c.eq.ensures ∙ equal_alike g.N.NodeTrait.value g.N.NodeTrait.order g.met.N.NodeTrait.compares g.met.N.Ord.matches_eq _ _) ∙ c.if-eq.false in
-    settled_two K c.requires.off lt c.requires.within first second (c.shift-2.ensures.keys ∙ c.shift.ensures.keys ∙ w.keys) (λ x. standing x (rows_of c.shift.new.self))
-    (λ x. c.shift.ensures.standing x ∙ ap (λ z. standing x z + bit (x == 2 * c.args.g)) w.rows) same
+    settled_two (last c.self.view_is c.requires.off c.requires.within c.requires.order c.if-g-l.false c.key-first.ensures c.key-second.ensures) (c.shift-2.ensures.keys ∙ c.shift.ensures.keys ∙ w.keys) (λ x. standing x (rows_of c.shift.new.self)) (shifted _ _ _ w.rows c.shift.ensures.standing) same
     (λ x. standing x (rows_of c.shift-2.new.self)) c.shift-2.ensures.standing

@@ -10,17 +10,24 @@ use Rattle.adjacency.proofs.Seating.{found_vacant, found_ok}
 use Rattle.graphmap.specs.Parts.{Parts, link_search, state_of}
 use Rattle.graphmap.proofs.Keying.{link_sought, key_search}
 use Rattle.graphmap.proofs.Kept.{sound_reweighted}
+use Rattle.graphmap.proofs.map.GraphMap.add_edge.Given as given
 use Rattle.graphmap.proofs.map.GraphMap.add_edge.Goals as goal
+
+-- the link is at p
+module _ (g : given.Over) (c : goal.After-set_value g) where
+  at : position (is_link (keys g.N.NodeTrait.value g.N.NodeTrait.order) (canon (keys g.N.NodeTrait.value g.N.NodeTrait.order) c.self.inside.kind (g.N.NodeTrait.value c.args.a) (g.N.NodeTrait.value c.args.b))) c.self.inside.links.entries ≡ Some c.in-Ok.p
+  at =
+      sym (link_sought (keys g.N.NodeTrait.value g.N.NodeTrait.order) c.self.inside.kind c.args.a c.args.b c.self.inside.links.entries _ c.edge_key.ensures)
+      ∙ found_ok _ _ c.in-Ok.p (sym c.find.ensures ∙ c.in-Ok.is)
+
+  place : c.in-Ok.p < length c.self.inside.links.entries
+  place = found_within _ c.self.inside.links.entries c.in-Ok.p at
 
 pub invariant_of-self : goal.invariant_of-self
 invariant_of-self g c =
-    let K = keys g.N.NodeTrait.value g.N.NodeTrait.order in
-    let m : Parts g.row.N.Denot g.row.E.Denot = record { kind = c.self.inside.kind; rows = c.self.inside.adjacency; links = c.self.inside.links } in
-    let ls = m.links.entries in
+    let ls = c.self.inside.links.entries in
     let p = c.in-Ok.p in
-    let at : position (is_link K (canon K m.kind (K.value c.args.a) (K.value c.args.b))) ls ≡ Some p =
-    sym (link_sought K m.kind c.args.a c.args.b ls _ c.edge_key.ensures) ∙ found_ok _ _ p (sym c.find.ensures ∙ c.in-Ok.is) in
-    let l : p < length ls = found_within _ ls p at in
+    let l = place g c in
     let d₀ = some_of ls p l in
     sound_reweighted c.self.invariant p c.args.w d₀ c.set_value.new.self l (value_put ls _ p c.args.w _ c.set_value.ensures.done l d₀)
 
@@ -31,14 +38,12 @@ returns-in-Ok g c =
     let ls = m.links.entries in
     let p = c.in-Ok.p in
     let κ = canon K m.kind (K.value c.args.a) (K.value c.args.b) in
-    let at : position (is_link K κ) ls ≡ Some p =
-    sym (link_sought K m.kind c.args.a c.args.b ls _ c.edge_key.ensures) ∙ found_ok _ _ p (sym c.find.ensures ∙ c.in-Ok.is) in
-    let l : p < length ls = found_within _ ls p at in
+    let l = place g c in
     let d₀ = some_of ls p l in
     let old = value_old ls _ p c.args.w _ c.set_value.ensures.done l d₀ in
-    let links = value_put ls _ p c.args.w _ c.set_value.ensures.done l d₀ ∙ sym (amended_at (is_link K κ) (λ x. (x.0, c.args.w)) ls p d₀ at) in
+    let links = value_put ls _ p c.args.w _ c.set_value.ensures.done l d₀ ∙ sym (amended_at (is_link K κ) (λ x. (x.0, c.args.w)) ls p d₀ (at g c)) in
     (λ i. (Ok (old i), state_of (record { kind = m.kind; rows = m.rows; links = record { entries = links i; room = c.set_value.ensures.room i } })))
-    ∙ sym (ap (λ f. add_found K f c.args.a c.args.b c.args.w (state_of m)) (found_at (is_link K κ) ls p d₀ at))
+    ∙ sym (ap (λ f. add_found K f c.args.a c.args.b c.args.w (state_of m)) (found_at (is_link K κ) ls p d₀ (at g c)))
     ∙ ap (λ z. add_edge K c.args.a c.args.b c.args.w (state_of z)) c.self.view_is
 
 pub add_new-requires : goal.add_new-requires

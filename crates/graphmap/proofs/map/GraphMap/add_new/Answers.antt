@@ -15,6 +15,7 @@ use Rattle.graphmap.proofs.Keying.{key_search, search_absent}
 use Rattle.graphmap.proofs.Kept.{sound_more}
 use Rattle.graphmap.proofs.TableCalls.{added}
 use Rattle.graphmap.proofs.Wants.{lacking_wanted}
+use Rattle.graphmap.proofs.map.GraphMap.add_new.Given as given
 use Rattle.graphmap.proofs.map.GraphMap.add_new.Goals as goal
 
 pub returns-then-room-len : goal.returns-then-room-len
@@ -40,18 +41,25 @@ append-requires g c =
           ∙ c.requires.absent;
     }
 
+-- there is room for the link, and it is put at the end
+module _ (g : given.Over) (c : goal.After-append g) where
+  room : length c.self.inside.links.entries < min c.self.inside.links.room (length (keys_of c.self.inside.adjacency) / 2)
+  room = omega (arith, c.len-p.ensures, c.capacity.ensures, c.link_room.ensures)
+
+  more_links : c.append.new.self.entries ≡ c.self.inside.links.entries ++ (edge_key (keys g.N.NodeTrait.value g.N.NodeTrait.order) c.self.inside.kind c.args.a c.args.b, c.args.w) ∷ []
+  more_links =
+      added c.self.inside.links.entries c.self.inside.links.room _ c.append.ensures.done (omega (arith, room))
+      ∙ ap (λ q. c.self.inside.links.entries ++ (q, c.args.w) ∷ []) c.edge_key.ensures
+
 pub invariant_of-self : goal.invariant_of-self
 invariant_of-self g c =
     let K = keys g.N.NodeTrait.value g.N.NodeTrait.order in
     let m : Parts g.row.N.Denot g.row.E.Denot = record { kind = c.self.inside.kind; rows = c.self.inside.adjacency; links = c.self.inside.links } in
-    let ls = m.links.entries in
     let p = c.len-p.ensures in
-    let room : length ls < min m.links.room (length (keys_of m.rows) / 2) = omega (arith, p, c.capacity.ensures, c.link_room.ensures) in
-    let more_links : c.append.new.self.entries ≡ ls ++ (edge_key K m.kind c.args.a c.args.b, c.args.w) ∷ [] = added ls m.links.room _ c.append.ensures.done (omega (arith, room)) ∙ ap (λ q. ls ++ (q, c.args.w) ∷ []) c.edge_key.ensures in
     let off =
     search_absent K.value K.order g.met.N.NodeTrait.ordered g.N.NodeTrait.hashed m c.args.a c.args.b c.args.v
     (ap (λ z. link_search K.value K.order g.N.NodeTrait.hashed z c.args.a c.args.b) c.self.view_is ∙ c.requires.absent) in
-    sound_more c.self.invariant c.args.a c.args.b c.args.w c.join.new.self c.append.new.self (omega (arith, room)) off more_links
+    sound_more c.self.invariant c.args.a c.args.b c.args.w c.join.new.self c.append.new.self (omega (arith, room g c)) off (more_links g c)
     (c.join.ensures.keys ∙ ap (λ z. wrote (keys_of m.rows) z c.args.a c.args.b) p)
     (λ d. subst (λ z. Whole K d (keys_of c.join.new.self) (z + 1) (rows_of c.join.new.self)) p (c.join.ensures.whole d))
 
@@ -62,18 +70,14 @@ returns g c =
     let a = c.args.a in
     let b = c.args.b in
     let w = c.args.w in
-    let ls = m.links.entries in
     let ks = keys_of m.rows in
     let ns = noded ks (rows_of m.rows) in
     let j = c.join.ensures in
-    let p = c.len-p.ensures in
-    let room : length ls < min m.links.room (length ks / 2) = omega (arith, p, c.capacity.ensures, c.link_room.ensures) in
-    let free = lt-leb (min m.links.room (length ks / 2)) (length ls) room in
+    let free = lt-leb (min m.links.room (length ks / 2)) (length m.links.entries) (room g c) in
     let more = c.lacking-more.ensures
     ∙ lacking_wanted K a b _ _ m.rows c.find-first.ensures.found c.find-second.ensures.found (c.eq.ensures ∙ equal_alike g.N.NodeTrait.value g.N.NodeTrait.order g.met.N.NodeTrait.compares g.met.N.Ord.matches_eq _ _) in
     let has = le-ltb m.rows.nodes.room (length ns + wanted K a b ns) (omega (arith, c.len.ensures, c.room.ensures, c.find-first.ensures.stage.fits, length_noded ks (rows_of m.rows), rowed_length m.rows.cells m.rows.nodes.entries)) in
-    let more_links : c.append.new.self.entries ≡ ls ++ (edge_key K m.kind a b, w) ∷ [] = added ls m.links.room _ c.append.ensures.done (omega (arith, room)) ∙ ap (λ q. ls ++ (q, w) ∷ []) c.edge_key.ensures in
     let same : length (keys_of c.join.new.self) ≡ length ks = ap length j.keys ∙ length_wrote a ks c.len-p.result a b in
-    (λ i. (Ok None, record { kind = m.kind; node_room = j.room i; link_room = min (c.append.ensures.room i) (same i / 2); nodes = j.joined i; links = more_links i }))
+    (λ i. (Ok None, record { kind = m.kind; node_room = j.room i; link_room = min (c.append.ensures.room i) (same i / 2); nodes = j.joined i; links = more_links g c i }))
     ∙ sym (cond-false _ _ _ free ∙ cond-false _ _ _ has)
     ∙ ap (λ z. add_new K a b w (state_of z)) c.self.view_is
