@@ -1,4 +1,5 @@
 // One edit of one row, that of the node at a place: the other rows stay as they are.
+// The four share two lines. A closure for the line between would bring its `pre` and `post` into every contract.
 ghost use Rattle.std.specs.Prelude.{◌≡◌, ℕ, ◌<◌, ◌≤◌, [], ◌∷◌, ◌++◌, length, slice_index_or, slice_set};
 ghost use Rattle.lists.specs.Swap.{swap_removed};
 ghost use Rattle.model.specs.Keys.{keys};

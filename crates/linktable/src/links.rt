@@ -44,6 +44,7 @@ fn remove(links: &mut Links<'_>, from: Account, to: Account) -> Answer
     ensures done { (result, links.new.entries) ≡ removed links.old.entries (place_of links.old.entries from to) }
     ensures room { links.new.room ≡ links.old.room }
 {
+    // Early returns: after an `and_then` that removes, the proof is told nothing of the links.
     let Ok(place) = links.find(&(from, to)) else {
         return Answer::Nothing;
     };

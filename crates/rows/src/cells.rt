@@ -2,7 +2,7 @@ ghost use Rattle.std.specs.Prelude.{◌≡◌};
 ghost use Rattle.rows.specs.Links.{bare, loose};
 
 /// The number of no cell: what a link holds where a row ends.
-// A number, since the memory is lent and counted by cells: an Option of a number takes twice its room.
+// A number: in the lent memory an `Option<u32>` takes twice its room, and one of `NonZeroU32` does too.
 pub const NONE: u32 = u32::MAX;
 
 /// One place of a row: the key of a node, and the cells before and after it.

@@ -16,6 +16,7 @@ impl<'a, K: NodeTrait, V: Copy> Memory<'a, K, V> {
         requires place { g < n }
         ensures { Above n (bucket_of K.hashed self.now) b g result }
     {
+        // No iterator: that the places fall, so that it ends, is told by the index and not by a type.
         let mut p = n;
         let mut at = place_of(self.head_of(b));
         while let Some(i) = at {

@@ -65,6 +65,7 @@ impl<'a, K: NodeTrait, V: Copy> Memory<'a, K, V> {
         requires hashed { (j : K) → K.value j ≡ K.value k.now → home (capacity_of self.now) (K.hashed j) ≡ b }
         ensures { Located K.value (take len (pairs self.now)) k.now result }
     {
+        // No iterator, as in `above`.
         let mut at = place_of(self.head_of(b));
         while let Some(i) = at {
             if self.key_of(i) == *k {

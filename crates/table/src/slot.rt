@@ -2,6 +2,7 @@ ghost use Rattle.std.specs.Prelude.{◌≡◌, ◌<◌, [], ◌∷◌, slice_set
 ghost use Rattle.table.specs.Slots.{at, none, place_of, fresh_slot};
 
 /// What a link holds where its chain ends.
+// A number: the index takes 8 bytes of a slot in the lent memory, and with `Option`s it would take 14.
 pub const NONE: usize = 65535;
 
 /// One entry, with the part of the index that lies beside it: the heads and the marks of two buckets,
