@@ -1,4 +1,4 @@
-use Rattle.std.proofs.Common.{◌+◌, ◌*◌, ◌<◌, sym, ap, ◌∙◌, arith}
+use Rattle.std.proofs.Common.{◌+◌, ◌*◌, sym, ap, ◌∙◌, arith}
 use Rattle.keys.specs.Laws.{equal_alike}
 use Rattle.model.specs.Keys.{keys}
 use Rattle.halfedges.specs.Cells.{standing}
