@@ -1,4 +1,4 @@
-use Rattle.std.proofs.Common.{◌+◌, ◌*◌, ◌<◌, sym, ap, ◌∙◌, arith}
+use Rattle.std.proofs.Common.{◌+◌, ◌*◌, sym, ap, ◌∙◌, arith}
 use Rattle.keys.specs.Laws.{equal_alike}
 use Rattle.model.specs.Keys.{keys}
 use Rattle.halfedges.specs.Cells.{standing}
@@ -15,30 +15,39 @@ pub write_link-requires-clause-off : goal.write_link-requires-clause-off
 write_link-requires-clause-off g c = (c.requires.off c.key-first.result).out
 
 pub shift-requires-clause-held : goal.shift-requires-clause-held
-shift-requires-clause-held g c = ap (standing (2 * c.args.l)) c.write_link.ensures.rows ∙ last_first (last c.self.view_is c.requires.off c.requires.within c.requires.order c.if-g-l.false c.key-first.ensures c.key-second.ensures)
+shift-requires-clause-held g c =
+    let m = last c.self.view_is c.requires.off c.requires.within c.requires.order c.if-g-l.false c.key-first.ensures c.key-second.ensures in
+    ap (standing (2 * c.args.l)) c.write_link.ensures.rows ∙ last_first m
 
 pub shift-requires-clause-fresh : goal.shift-requires-clause-fresh
 shift-requires-clause-fresh g c = ap (standing (2 * c.args.g)) c.write_link.ensures.rows ∙ (c.requires.off c.key-first.result).out (2 * c.args.g) (omega arith)
 
 pub returns-then-eq-clause-whole : goal.returns-then-eq-clause-whole
 returns-then-eq-clause-whole g c =
+    let m = last c.self.view_is c.requires.off c.requires.within c.requires.order c.if-g-l.false c.key-first.ensures c.key-second.ensures in
     let w = c.write_link.ensures in
     let same = sym (c.eq.ensures ∙ equal_alike g.N.NodeTrait.value g.N.NodeTrait.order g.met.N.NodeTrait.compares g.met.N.Ord.matches_eq _ _) ∙ c.if-eq.true in
-    settled_one (last c.self.view_is c.requires.off c.requires.within c.requires.order c.if-g-l.false c.key-first.ensures c.key-second.ensures) (c.shift.ensures.keys ∙ w.keys) (λ x. standing x (rows_of c.shift.new.self)) (shifted _ _ _ w.rows c.shift.ensures.standing) same
+    settled_one m (c.shift.ensures.keys ∙ w.keys) (λ x. standing x (rows_of c.shift.new.self))
+    (shifted _ _ _ w.rows c.shift.ensures.standing) same
 
 pub shift-requires-2-clause-held : goal.shift-requires-2-clause-held
 shift-requires-2-clause-held g c =
+    let m = last c.self.view_is c.requires.off c.requires.within c.requires.order c.if-g-l.false c.key-first.ensures c.key-second.ensures in
     let same = sym (c.eq.ensures ∙ equal_alike g.N.NodeTrait.value g.N.NodeTrait.order g.met.N.NodeTrait.compares g.met.N.Ord.matches_eq _ _) ∙ c.if-eq.false in
-    shifted_other _ _ _ c.write_link.ensures.rows c.shift.ensures.standing (2 * c.args.l + 1) (λ e. omega arith) (λ e. omega (arith, c.if-g-l.false, c.requires.order)) ∙ last_second (last c.self.view_is c.requires.off c.requires.within c.requires.order c.if-g-l.false c.key-first.ensures c.key-second.ensures) same
+    shifted_other _ _ _ c.write_link.ensures.rows c.shift.ensures.standing (2 * c.args.l + 1) (λ e. omega arith) (λ e. omega (arith, c.if-g-l.false, c.requires.order))
+    ∙ last_second m same
 
 pub shift-requires-2-clause-fresh : goal.shift-requires-2-clause-fresh
 shift-requires-2-clause-fresh g c =
     let x = 2 * c.args.g + 1 in
-    shifted_other _ _ _ c.write_link.ensures.rows c.shift.ensures.standing x (λ e. omega (arith, c.if-g-l.false, c.requires.order)) (λ e. omega arith) ∙ (c.requires.off c.key-first.result).out x (omega arith)
+    shifted_other _ _ _ c.write_link.ensures.rows c.shift.ensures.standing x (λ e. omega (arith, c.if-g-l.false, c.requires.order)) (λ e. omega arith)
+    ∙ (c.requires.off c.key-first.result).out x (omega arith)
 
 pub returns-clause-whole : goal.returns-clause-whole
 returns-clause-whole g c =
+    let m = last c.self.view_is c.requires.off c.requires.within c.requires.order c.if-g-l.false c.key-first.ensures c.key-second.ensures in
     let w = c.write_link.ensures in
     let same = sym (c.eq.ensures ∙ equal_alike g.N.NodeTrait.value g.N.NodeTrait.order g.met.N.NodeTrait.compares g.met.N.Ord.matches_eq _ _) ∙ c.if-eq.false in
-    settled_two (last c.self.view_is c.requires.off c.requires.within c.requires.order c.if-g-l.false c.key-first.ensures c.key-second.ensures) (c.shift-2.ensures.keys ∙ c.shift.ensures.keys ∙ w.keys) (λ x. standing x (rows_of c.shift.new.self)) (shifted _ _ _ w.rows c.shift.ensures.standing) same
+    settled_two m (c.shift-2.ensures.keys ∙ c.shift.ensures.keys ∙ w.keys) (λ x. standing x (rows_of c.shift.new.self))
+    (shifted _ _ _ w.rows c.shift.ensures.standing) same
     (λ x. standing x (rows_of c.shift-2.new.self)) c.shift-2.ensures.standing
