@@ -47,10 +47,9 @@ impl<'a> Arguments<'a> {
     fn end(&mut self) -> Result<(), Fault>
         ensures { result ≡ at_end (rest_of self.old) }
     {
-        match self.words.next() {
-            None => Ok(()),
-            Some(_) => Err(Fault::SurplusWord),
-        }
+        self.words
+            .next()
+            .map_or(Ok(()), |_| Err(Fault::SurplusWord))
     }
 
     // What is asked for by the first word of the line.

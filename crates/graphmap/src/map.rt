@@ -48,6 +48,7 @@ impl<'a, N: NodeTrait, E: Copy> GraphMap<'a, N, E> {
             links: Table::new(links),
         }
     }
+
     /// How many nodes there are.
     pub fn node_count(&self) -> usize
         ensures { result ≡ length (state_of self.now).nodes }

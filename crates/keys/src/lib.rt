@@ -1,3 +1,4 @@
+// Keys and weights of a link map, refusals, and the links of a list.
 #![tactic(auto)]
 
 pub mod edges;

@@ -16,7 +16,7 @@ use table::slot::Slot;
 use table::table::Table;
 use text::lines::without_newline;
 
-// Each place with its link.
+// Each place with its link, by `line_at`, whose contract says what a line shows.
 fn list(rt: &impl Print, links: &Links<'_>) -> io::Result<()> {
     for line in (0..links.len()).filter_map(|place| line_at(links, place)) {
         rt.println(line)?;
@@ -43,19 +43,17 @@ fn answer(rt: &impl Print, links: &mut Links<'_>, number: u64, line: &[u8]) -> i
 
 // The room that the command line asks for, or else the most.
 fn room(rt: &HostRuntime) -> anyhow::Result<usize> {
-    match env::args(rt)?.nth(1) {
-        Some(word) => room_for(word.as_bytes()).map_err(|_| anyhow!(
-            "the capacity is no number of 32 bits"
-        )),
-        None => Ok(MOST),
-    }
+    env::args(rt)?
+        .nth(1)
+        .map_or(Ok(MOST), |word| room_for(word.as_bytes()))
+        .map_err(|_| anyhow!("the capacity is no number of 32 bits"))
 }
 
 fn run(rt: &HostRuntime) -> anyhow::Result<()> {
     let vacant = Slot::new((Account(0), Account(0)), Price(0));
-    let Ok(mut memory) = vec![in rt.alloc(); vacant; room(rt)?] else {
-        return Err(anyhow!("no memory for the links"));
-    };
+    let mut memory = vec![in rt.alloc(); vacant; room(rt)?].map_err(|_| anyhow!(
+        "no memory for the links"
+    ))?;
     let mut links = Table::new(memory.as_mut_slice());
     let mut input = BufReader::new(rt.alloc(), rt.stdin())?;
     // One buffer serves every line: `split` allocates one for each, and was a tenth slower.

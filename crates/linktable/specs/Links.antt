@@ -53,6 +53,10 @@ quoted links (Some place) = told_price place (slice_get links place)
 abbrev pub filler : ℕ → ℕ → Option ℕ
 filler last gap = cond (last == gap) None (Some last)
 
+abbrev pub taken_by : List Link → Option ℕ → Option (Taken (Account × Account) Price) × List Link
+taken_by links None = (None, links)
+taken_by links (Some place) = taken links place
+
 abbrev pub told_taken : Option (Taken (Account × Account) Price) × List Link → Answer × List Link
 told_taken (None, links) = (answer.Nothing, links)
 told_taken (Some t, links) = (answer.Removed t.entry.1 t.gap (filler t.last t.gap), links)

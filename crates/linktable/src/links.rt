@@ -1,6 +1,6 @@
 ghost use Rattle.std.specs.Prelude.{◌≡◌, ◌<◌, length};
 ghost use Rattle.keys.specs.Hashes.{spread_of, pair_hash};
-ghost use Rattle.linktable.specs.Links.{place_of, added, quoted, removed, performed, listed};
+ghost use Rattle.linktable.specs.Links.{place_of, added, quoted, taken_by, removed, performed, listed};
 ghost use Rattle.std.specs.List.{slice_get};
 
 use commands::answers::{Answer, Line};
@@ -8,7 +8,7 @@ use commands::command::Command;
 use keys::nodes::Account;
 use keys::refusals::Refusal;
 use keys::weights::Price;
-use table::table::Table;
+use table::table::{Table, Taken};
 
 /// The links by their two accounts, each with its price.
 pub type Links<'a> = Table<'a, (Account, Account), Price>;
@@ -40,22 +40,31 @@ fn quote(links: &Links<'_>, from: Account, to: Account) -> Answer
     }
 }
 
+// Takes the link out of the table, where it is there.
+fn take(
+    links: &mut Links<'_>,
+    from: Account,
+    to: Account,
+) -> Option<Taken<(Account, Account), Price>>
+    ensures done { (result, links.new.entries) ≡ taken_by links.old.entries (place_of links.old.entries from to) }
+    ensures room { links.new.room ≡ links.old.room }
+{
+    let place = links.find(&(from, to)).ok()?;
+    links.swap_remove(place)
+}
+
 fn remove(links: &mut Links<'_>, from: Account, to: Account) -> Answer
     ensures done { (result, links.new.entries) ≡ removed links.old.entries (place_of links.old.entries from to) }
     ensures room { links.new.room ≡ links.old.room }
 {
-    // Early returns: after an `and_then` that removes, the proof is told nothing of the links.
-    let Ok(place) = links.find(&(from, to)) else {
-        return Answer::Nothing;
-    };
-    let Some(taken) = links.swap_remove(place) else {
-        return Answer::Nothing;
-    };
-    Answer::Removed {
-        price: taken.entry.1,
-        gap: taken.gap,
-        moved: (taken.last != taken.gap).then_some(taken.last),
-    }
+    take(links, from, to).map_or(
+        Answer::Nothing,
+        |taken| Answer::Removed {
+            price: taken.entry.1,
+            gap: taken.gap,
+            moved: (taken.last != taken.gap).then_some(taken.last),
+        },
+    )
 }
 
 /// Carries out a command: its answer, and the links then.

@@ -85,14 +85,12 @@ fn look(t: &Links<'_>, keys: Keys, first: u32, n: u32) -> usize {
 
 // Takes n keys out, and sums the places that were the last.
 fn remove(t: &mut Links<'_>, keys: Keys, n: u32) -> usize {
-    let mut sum = 0usize;
-    for i in 0..n {
-        if let Ok(place) = t.find(&keys.jumped(0, i, n)) {
-            let last = t.swap_remove(place).map_or(0, |taken| taken.last);
-            sum = sum.wrapping_add(last);
-        }
-    }
-    sum
+    (0..n)
+        .filter_map(|i| {
+            let place = t.find(&keys.jumped(0, i, n)).ok()?;
+            t.swap_remove(place)
+        })
+        .fold(0, |sum: usize, taken| sum.wrapping_add(taken.last))
 }
 
 // One round: the table is filled, looked through with and without hits, and emptied.
