@@ -2,7 +2,7 @@ ghost use Rattle.std.specs.Prelude.{◌≡◌, ◌/◌, min, length};
 ghost use Rattle.keys.specs.Kinds.{directed};
 ghost use Rattle.model.specs.Maps.{fresh};
 ghost use Rattle.model.specs.Questions.{rooms};
-ghost use Rattle.graphmap.specs.Parts.{state_of};
+ghost use Rattle.graphmap.specs.Parts.{state_of, Sound};
 
 use adjacency::adjacency::Adjacency;
 use keys::kinds::Kind;
@@ -56,9 +56,10 @@ impl<'a, N: NodeTrait, E: Copy> GraphMap<'a, N, E> {
         self.adjacency.len()
     }
 
-    /// How many links there are.
+    /// How many links there are. Each is under the key of its ends, and has its entries in their rows.
     pub fn edge_count(&self) -> usize
-        ensures { result ≡ length (state_of self.now).links }
+        ensures count { result ≡ length (state_of self.now).links }
+        ensures sound { Sound N.value N.order self.now }
     {
         self.links.len()
     }

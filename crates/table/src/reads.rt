@@ -1,4 +1,5 @@
-ghost use Rattle.std.specs.Prelude.{◌≡◌, ◌<◌, length, slice_index_or};
+ghost use Rattle.std.specs.Prelude.{◌≡◌, ◌<◌, ◌≤◌, length, slice_index_or};
+ghost use Rattle.table.specs.Content.{Apart};
 ghost use Rattle.table.specs.Slots.{pairs};
 
 use crate::slot::Slot;
@@ -20,9 +21,11 @@ impl<'a, K: NodeTrait, V: Copy> Table<'a, K, V> {
         self.memory.capacity()
     }
 
-    /// The slots of the entries, by place.
+    /// The slots of the entries, by place. They fit, and no two of their keys have one value.
     pub fn as_slice(&self) -> &[Slot<K, V>]
-        ensures { pairs result.now ≡ self.now.entries }
+        ensures entries { pairs result.now ≡ self.now.entries }
+        ensures fits { length self.now.entries ≤ self.now.room }
+        ensures apart { Apart K.value self.now.entries }
     {
         self.memory.first(self.len)
     }

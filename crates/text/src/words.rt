@@ -21,6 +21,13 @@ impl<'a> Words<'a> {
     {
         Words { rest: line }
     }
+
+    // What follows the words that were taken.
+    pub fn rest(&self) -> &'a [u8]
+        ensures { result.now ≡ left self.now }
+    {
+        &self.rest[..]
+    }
 }
 
 impl<'a> Iterator for Words<'a> {

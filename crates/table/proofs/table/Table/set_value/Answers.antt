@@ -16,7 +16,7 @@ invariant_of-self g c =
     let x = c.in_ok-slot.slot.now in
     let I = c.self.invariant.index in
     let found = c.in_ok-slot.ensures.lookup.3 in
-    let there = seen_slot I c.self.view_is _ c.as_slice.ensures i x found.0 (found.1 x) in
+    let there = seen_slot I c.self.view_is _ c.as_slice.ensures.entries i x found.0 (found.1 x) in
     let key : (d : g.row.K.Denot × g.row.V.Denot) → x.key ≡ (get_or (take len (pairs s)) i d).0 =
     λ d. ap (λ z. z.0) (sym (get_or_from_slice_get (take len (pairs s)) i _ d there.0)) in
     record {
@@ -32,7 +32,7 @@ pub returns-clause-done : goal.returns-clause-done
 returns-clause-done g c =
     let x = c.in_ok-slot.slot.now in
     let found = c.in_ok-slot.ensures.lookup.3 in
-    let there = seen_slot c.self.invariant.index c.self.view_is _ c.as_slice.ensures c.args.i x found.0 (found.1 x) in
+    let there = seen_slot c.self.invariant.index c.self.view_is _ c.as_slice.ensures.entries c.args.i x found.0 (found.1 x) in
     rw (← c.self.view_is)
     (ap (λ z. (Some x.value, z)) (ap (take c.self.inside.len) c.set_pair.ensures.pair ∙ take-set-lt c.self.inside.len (pairs c.self.inside.memory) c.args.i (x.key, c.args.v) there.1)
     ∙ sym (ap (replaced_at _ c.args.i c.args.v) there.0))
