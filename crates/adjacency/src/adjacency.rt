@@ -40,9 +40,10 @@ impl<'a, N: NodeTrait> Adjacency<'a, N> {
         }
     }
 
-    /// How many nodes there are.
+    /// How many nodes there are. Their rows fit one another.
     pub fn len(&self) -> usize
-        ensures { result ≡ length self.now.nodes.entries }
+        ensures count { result ≡ length self.now.nodes.entries }
+        ensures stage { Stage N.value N.order self.now }
     {
         self.nodes.len()
     }

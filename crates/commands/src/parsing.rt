@@ -87,6 +87,7 @@ pub fn parse(line: &[u8]) -> Result<Option<Command>, Fault>
         return Ok(None);
     }
     let mut words = Words::new(line);
+    // An early return: a closure after `map` would capture the words that follow.
     let Some(word) = words.next() else {
         return Ok(None);
     };

@@ -2,6 +2,7 @@ ghost use Rattle.std.specs.Prelude.{◌≡◌, ◌/◌, min, length};
 ghost use Rattle.keys.specs.Kinds.{directed};
 ghost use Rattle.model.specs.Maps.{fresh};
 ghost use Rattle.model.specs.Questions.{rooms};
+ghost use Rattle.adjacency.specs.Stages.{Stage};
 ghost use Rattle.graphmap.specs.Parts.{state_of, Sound};
 
 use adjacency::adjacency::Adjacency;
@@ -49,9 +50,10 @@ impl<'a, N: NodeTrait, E: Copy> GraphMap<'a, N, E> {
         }
     }
 
-    /// How many nodes there are.
+    /// How many nodes there are. Their rows fit one another.
     pub fn node_count(&self) -> usize
-        ensures { result ≡ length (state_of self.now).nodes }
+        ensures count { result ≡ length (state_of self.now).nodes }
+        ensures stage { Stage N.value N.order self.now.rows }
     {
         self.adjacency.len()
     }

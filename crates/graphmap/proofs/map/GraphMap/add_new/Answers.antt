@@ -28,7 +28,7 @@ returns-then-room-len g c =
     let free = lt-leb (min m.links.room (length (keys_of m.rows) / 2)) (length m.links.entries) (omega (arith, c.len-p.ensures, c.capacity.ensures, c.link_room.ensures)) in
     let more = c.lacking-more.ensures
     ∙ lacking_wanted K a b _ _ m.rows c.find-first.ensures.found c.find-second.ensures.found (c.eq.ensures ∙ equal_alike g.N.NodeTrait.value g.N.NodeTrait.order g.met.N.NodeTrait.compares g.met.N.Ord.matches_eq _ _) in
-    let full = lt-ltb m.rows.nodes.room (length ns + wanted K a b ns) (omega (arith, c.len.ensures, c.room.ensures, length_noded (keys_of m.rows) (rows_of m.rows), rowed_length m.rows.cells m.rows.nodes.entries)) in
+    let full = lt-ltb m.rows.nodes.room (length ns + wanted K a b ns) (omega (arith, c.len.ensures.count, c.room.ensures, length_noded (keys_of m.rows) (rows_of m.rows), rowed_length m.rows.cells m.rows.nodes.entries)) in
     subst (λ z. (Err NodesFull, state_of z) ≡ add_new K a b c.args.w (state_of z)) c.self.view_is (sym (cond-false _ _ _ free ∙ cond-true _ _ _ full))
 
 pub append-requires : goal.append-requires
@@ -76,7 +76,7 @@ returns g c =
     let free = lt-leb (min m.links.room (length ks / 2)) (length m.links.entries) (room g c) in
     let more = c.lacking-more.ensures
     ∙ lacking_wanted K a b _ _ m.rows c.find-first.ensures.found c.find-second.ensures.found (c.eq.ensures ∙ equal_alike g.N.NodeTrait.value g.N.NodeTrait.order g.met.N.NodeTrait.compares g.met.N.Ord.matches_eq _ _) in
-    let has = le-ltb m.rows.nodes.room (length ns + wanted K a b ns) (omega (arith, c.len.ensures, c.room.ensures, c.find-first.ensures.stage.fits, length_noded ks (rows_of m.rows), rowed_length m.rows.cells m.rows.nodes.entries)) in
+    let has = le-ltb m.rows.nodes.room (length ns + wanted K a b ns) (omega (arith, c.len.ensures.count, c.room.ensures, c.find-first.ensures.stage.fits, length_noded ks (rows_of m.rows), rowed_length m.rows.cells m.rows.nodes.entries)) in
     let same : length (keys_of c.join.new.self) ≡ length ks = ap length j.keys ∙ length_wrote a ks c.len-p.result a b in
     (λ i. (Ok None, record { kind = m.kind; node_room = j.room i; link_room = min (c.append.ensures.room i) (same i / 2); nodes = j.joined i; links = more_links g c i }))
     ∙ sym (cond-false _ _ _ free ∙ cond-false _ _ _ has)
