@@ -9,10 +9,25 @@ ghost use Rattle.adjacency.specs.Stages.{Stage, keys_of};
 use crate::adjacency::Adjacency;
 use keys::nodes::NodeTrait;
 use rows::asked::Asked;
-use rows::cells::RowHead;
+use rows::cells::{Cell, RowHead};
 use rows::walk::Walk;
+use table::table::Table;
 
 impl<'a, N: NodeTrait> Adjacency<'a, N> {
+    /// The table of the nodes, each with the head of its row.
+    pub fn nodes(&self) -> &Table<'a, N, RowHead>
+        ensures { result.now ≡ self.now.nodes }
+    {
+        &self.nodes
+    }
+
+    /// The cells of all rows.
+    pub fn cells(&self) -> &[Cell<N>]
+        ensures { result.now ≡ self.now.cells }
+    {
+        self.rows.as_slice()
+    }
+
     /// The head of the row of `n`, where there is such a node.
     pub fn head(&self, n: &N) -> Option<RowHead>
         ensures head { result ≡ head_of (keys N.value N.order) (N.value n.now) self.now.nodes.entries }

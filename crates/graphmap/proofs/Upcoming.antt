@@ -64,14 +64,13 @@ module _ {N : Type 0} (mem : List (Cell N)) where
 
 module _ {N V : Type 0} (K : Keys N V) (e : N) (mem : List (Cell N)) (kind : Kind) (d : Direction) (v : V) where
   -- what is to come is in the memory
-  upcoming_within : (w : Walk) (c : ℕ) → 1 ≤ count c (upcoming K e mem kind d v w) → c < length (cell_keys mem)
-  upcoming_within w c h =
-      omega (arith, length-map mem (λ x. x.key), walked_within mem w.at w.left c (count_kept (showing K e mem kind d v) (walked mem w.at w.left) c h).0)
+  upcoming_within : (w : Walk) (c : ℕ) → 1 ≤ count c (upcoming K e mem kind d v w) → c < length mem
+  upcoming_within w c h = walked_within mem w.at w.left c (count_kept (showing K e mem kind d v) (walked mem w.at w.left) c h).0
 
   pub place_within : (w : Walk) (k : ℕ) (r : Option ℕ) (c : ℕ) → r ≡ slice_get (upcoming K e mem kind d v w) k → r ≡ Some c → c < length (cell_keys mem)
-  place_within w k r c at is = upcoming_within w c (count_place (upcoming K e mem kind d v w) k c (sym is ∙ at))
+  place_within w k r c at is = omega (arith, length-map mem (λ x. x.key), upcoming_within w c (count_place (upcoming K e mem kind d v w) k c (sym is ∙ at)))
 
-  pub first_within : (w : Walk) (ys : List ℕ) (r : Option ℕ) (c : ℕ) → ◌≡◌ {A = Option ℕ × List ℕ} (r, ys) (first_of (upcoming K e mem kind d v w)) → r ≡ Some c → c < length (cell_keys mem)
+  pub first_within : (w : Walk) (ys : List ℕ) (r : Option ℕ) (c : ℕ) → ◌≡◌ {A = Option ℕ × List ℕ} (r, ys) (first_of (upcoming K e mem kind d v w)) → r ≡ Some c → c < length mem
   first_within w ys r c at is = upcoming_within w c (first_count (upcoming K e mem kind d v w) ys r c at is)
 
   module _ (h : RowHead) (linked : Linked mem h) where

@@ -50,6 +50,27 @@ impl<'a, N: NodeTrait, E: Copy> GraphMap<'a, N, E> {
         }
     }
 
+    /// The table of the nodes, each with the head of its row.
+    pub fn nodes(&self) -> &Table<'a, N, RowHead>
+        ensures { result.now ≡ self.now.rows.nodes }
+    {
+        self.adjacency.nodes()
+    }
+
+    /// The table of the links.
+    pub fn links(&self) -> &Table<'a, (N, N), E>
+        ensures { result.now ≡ self.now.links }
+    {
+        &self.links
+    }
+
+    /// The cells of all rows.
+    pub fn cells(&self) -> &[Cell<N>]
+        ensures { result.now ≡ self.now.rows.cells }
+    {
+        self.adjacency.cells()
+    }
+
     /// How many nodes there are. Their rows fit one another.
     pub fn node_count(&self) -> usize
         ensures count { result ≡ length (state_of self.now).nodes }

@@ -2,16 +2,18 @@ ghost use Rattle.std.specs.Prelude.{◌≡◌, ℕ, ◌<◌, map, length, Some a
 ghost use Rattle.model.specs.Keys.{keys};
 ghost use Rattle.model.specs.Questions.{neighbor_list, edge_list};
 ghost use Rattle.rows.specs.Walks.{first_of};
-ghost use Rattle.adjacency.specs.Stages.{keys_of};
 ghost use Rattle.graphmap.specs.Parts.{state_of};
 ghost use Rattle.graphmap.specs.Walks.{first_by, origin, coming, key_of, edge_of};
 
+use crate::edges::edge_at;
 use crate::map::GraphMap;
-use keys::kinds::Direction;
+use keys::kinds::{Direction, Kind};
 use keys::nodes::NodeTrait;
 use model::edge::Edge;
 use rows::asked::Asked;
-use rows::walk::Walk;
+use rows::cells::Cell;
+use rows::walk::{Walk, advance};
+use table::table::Table;
 
 /// A walk along the row of a node: the node, the direction that is asked for, and how far it has come. A walk that was
 /// made on another map ends, and gives keys and links of this one.
@@ -36,27 +38,12 @@ impl<'a, N: NodeTrait, E: Copy> GraphMap<'a, N, E> {
         }
     }
 
-    // The next cell of the walk.
-    fn next_cell(&self, w: &mut Neighbors<N>) -> Option<u32>
-        ensures origin { origin w.new ≡ origin w.old }
-        ensures next { (e : N) → let left = coming (keys N.value N.order) e self.now.rows.cells self.now.kind in (result, left w.new) ≡ first_of (left w.old) }
-        ensures within { (c : ℕ) → result ≡ Present c → c < length (keys_of self.now.rows) }
-    {
-        let asked = Asked {
-            kind: self.kind,
-            direction: w.direction,
-            node: w.start,
-        };
-        self.adjacency.advance(asked, &mut w.walk)
-    }
-
     /// The next neighbour of the walk.
     pub fn next_neighbor(&self, w: &mut Neighbors<N>) -> Option<N>
         ensures origin { origin w.new ≡ origin w.old }
         ensures next { (e : N) → let left = coming (keys N.value N.order) e self.now.rows.cells self.now.kind in (result, left w.new) ≡ first_by (λ c. Present (key_of e self.now.rows.cells c)) (left w.old) }
     {
-        let c = self.next_cell(w)?;
-        Some(self.adjacency.key(c))
+        next_neighbor(self.kind, self.adjacency.cells(), w)
     }
 
     /// The next edge of the walk. None where there is no such link.
@@ -64,7 +51,43 @@ impl<'a, N: NodeTrait, E: Copy> GraphMap<'a, N, E> {
         ensures origin { origin w.new ≡ origin w.old }
         ensures next { (e : N) → let left = coming (keys N.value N.order) e self.now.rows.cells self.now.kind in (result, left w.new) ≡ first_by (edge_of e self.now.rows.cells self.now.links.entries (origin w.old)) (left w.old) }
     {
-        let c = self.next_cell(w)?;
-        self.edge_at(w.start, w.direction, c)
+        next_edge(self.kind, &self.links, self.adjacency.cells(), w)
     }
+}
+
+// The next cell of the walk.
+fn next_cell<N: NodeTrait>(kind: Kind, cells: &[Cell<N>], w: &mut Neighbors<N>) -> Option<u32>
+    ensures origin { origin w.new ≡ origin w.old }
+    ensures next { (e : N) → let left = coming (keys N.value N.order) e cells.now kind in (result, left w.new) ≡ first_of (left w.old) }
+    ensures within { (c : ℕ) → result ≡ Present c → c < length cells.now }
+{
+    let asked = Asked {
+        kind,
+        direction: w.direction,
+        node: w.start,
+    };
+    advance(cells, asked, &mut w.walk)
+}
+
+/// The next neighbour of the walk, in any cells.
+pub fn next_neighbor<N: NodeTrait>(kind: Kind, cells: &[Cell<N>], w: &mut Neighbors<N>) -> Option<N>
+    ensures origin { origin w.new ≡ origin w.old }
+    ensures next { (e : N) → let left = coming (keys N.value N.order) e cells.now kind in (result, left w.new) ≡ first_by (λ c. Present (key_of e cells.now c)) (left w.old) }
+{
+    let c = next_cell(kind, cells, w)?;
+    Some(cells[c as usize].key)
+}
+
+/// The next edge of the walk, in any cells and any links. None where there is no such link.
+pub fn next_edge<N: NodeTrait, E: Copy>(
+    kind: Kind,
+    links: &Table<'_, (N, N), E>,
+    cells: &[Cell<N>],
+    w: &mut Neighbors<N>,
+) -> Option<Edge<N, E>>
+    ensures origin { origin w.new ≡ origin w.old }
+    ensures next { (e : N) → let left = coming (keys N.value N.order) e cells.now kind in (result, left w.new) ≡ first_by (edge_of e cells.now links.now.entries (origin w.old)) (left w.old) }
+{
+    let c = next_cell(kind, cells, w)?;
+    edge_at(links, cells, w.start, w.direction, c)
 }

@@ -8,6 +8,7 @@ ghost use Rattle.adjacency.specs.Heads.{row_of};
 ghost use Rattle.adjacency.specs.Stages.{Stage, keys_of};
 ghost use Rattle.graphmap.specs.Parts.{state_of};
 
+use crate::edges::edge_at;
 use crate::map::GraphMap;
 use keys::kinds::{Direction, Kind};
 use keys::nodes::NodeTrait;
@@ -63,6 +64,6 @@ impl<'a, N: NodeTrait, E: Copy> GraphMap<'a, N, E> {
         ensures { result ≡ slice_get (edge_list (keys N.value N.order) n d (state_of self.now)) k }
     {
         let c = self.cell_at(self.kind, n, d, k)?;
-        self.edge_at(n, d, c)
+        edge_at(&self.links, self.adjacency.cells(), n, d, c)
     }
 }

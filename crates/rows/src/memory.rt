@@ -46,6 +46,13 @@ impl<'a, N: Copy> Rows<'a, N> {
         Rows { cells }
     }
 
+    /// The cells of all rows.
+    pub fn as_slice(&self) -> &[Cell<N>]
+        ensures { result.now ≡ self.now }
+    {
+        &*self.cells
+    }
+
     /// How many links the memory has cells for.
     pub fn room(&self) -> usize
         ensures links { result ≡ length self.now / 2 }
@@ -80,7 +87,16 @@ impl<'a, N: Copy> Rows<'a, N> {
         ensures nexts { nexts self.new ≡ nexts self.old }
         ensures prevs { prevs self.new ≡ prevs self.old }
     {
-        let cells: &mut [Cell<N>] = self.cells;
-        cells[c].key = k;
+        set_key(self.cells, c, k);
     }
+}
+
+/// Writes the key of the cell `c` of any memory. The links stay as they are.
+pub fn set_key<N: Copy>(cells: &mut [Cell<N>], c: usize, k: N)
+    requires { c < length cells.old }
+    ensures keys { cell_keys cells.new ≡ slice_set (cell_keys cells.old) c k }
+    ensures nexts { nexts cells.new ≡ nexts cells.old }
+    ensures prevs { prevs cells.new ≡ prevs cells.old }
+{
+    cells[c].key = k;
 }

@@ -10,29 +10,16 @@ ghost use Rattle.rows.specs.Walks.{upcoming, first_of};
 use crate::asked::Asked;
 use crate::cells::RowHead;
 use crate::memory::Rows;
-use crate::walk::{Steps, Walk, advance, nth_cell};
+use crate::walk::{Walk, advance, nth_cell, search};
 use keys::nodes::NodeTrait;
 
 impl<'a, N: NodeTrait> Rows<'a, N> {
-    // The cells of the walk.
-    fn steps(&self, walk: Walk) -> Steps<'_, N>
-        ensures cells { result.cells.now ≡ self.now }
-        ensures walk { result.walk ≡ walk }
-    {
-        Steps {
-            cells: self.cells,
-            walk,
-        }
-    }
-
     /// The first cell of the row that names the node in the direction that is asked for.
     pub fn search(&self, row: RowHead, asked: Asked<N>) -> Option<u32>
         requires linked { Linked self.now row }
         ensures { (d : N) → result ≡ found (λ x. hits (keys N.value N.order) asked.kind (N.value asked.node) asked.direction (slice_index_or (cell_keys self.now) x d, side x)) (listed self.now row) }
     {
-        self.steps(Walk::of(row))
-            .find(|&(x, cell)| asked.names(x, &cell.key))
-            .map(|(x, _)| x)
+        search(self.cells, row, asked)
     }
 
     /// The next cell of the walk whose entry the direction shows, where the row is that of the

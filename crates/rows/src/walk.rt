@@ -1,7 +1,11 @@
-ghost use Rattle.std.specs.Prelude.{◌≡◌};
+ghost use Rattle.std.specs.Prelude.{◌≡◌, slice_index_or};
 ghost use Rattle.std.specs.Iterator.{item_count};
 ghost use Rattle.std.specs.List.{slice_get};
 ghost use Rattle.model.specs.Keys.{keys};
+ghost use Rattle.model.specs.Lists.{found};
+ghost use Rattle.model.specs.Maps.{hits};
+ghost use Rattle.rows.specs.HalfEdges.{side};
+ghost use Rattle.rows.specs.Links.{Linked, listed, cell_keys};
 ghost use Rattle.rows.specs.Walks.{walk_of, still_met, StepsOn, upcoming, first_of};
 
 use crate::asked::Asked;
@@ -29,9 +33,9 @@ impl Walk {
 
 // The cells of a walk, each with its number. The walk ends at a cell that is not in the memory.
 #[derive(Drop)]
-pub(crate) struct Steps<'r, N> {
-    pub(crate) cells: &'r [Cell<N>],
-    pub(crate) walk: Walk,
+struct Steps<'r, N> {
+    cells: &'r [Cell<N>],
+    walk: Walk,
 }
 
 impl<'r, N> Iterator for Steps<'r, N> {
@@ -51,6 +55,17 @@ impl<'r, N> Iterator for Steps<'r, N> {
         };
         Some((x, cell))
     }
+}
+
+/// The first cell of the row that names the node in the direction that is asked for.
+pub fn search<N: NodeTrait>(cells: &[Cell<N>], row: RowHead, asked: Asked<N>) -> Option<u32>
+    requires linked { Linked cells.now row }
+    ensures { (d : N) → result ≡ found (λ x. hits (keys N.value N.order) asked.kind (N.value asked.node) asked.direction (slice_index_or (cell_keys cells.now) x d, side x)) (listed cells.now row) }
+{
+    let walk = Walk::of(row);
+    Steps { cells, walk }
+        .find(|&(x, cell)| asked.names(x, &cell.key))
+        .map(|(x, _)| x)
 }
 
 /// The next cell of the walk whose entry the direction shows, where the row is that of the node. The

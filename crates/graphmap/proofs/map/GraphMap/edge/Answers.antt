@@ -21,4 +21,10 @@ pub returns-in_err-c : goal.returns-in_err-c
 returns-in_err-c g c = c.from_residual.ensures ∙ (rw c.in_err-c.was at (told g (goal.at.returns-in_err-c g c).After-cell_at))
 
 pub returns : goal.returns
-returns g c = c.edge_at.ensures c.args.n ∙ (rw c.in_ok-c.was at (told g (goal.at.returns g c).After-cell_at))
+returns g c =
+    let a = c.args in
+    let x = c.in_ok-c.c in
+    c.edge_at.ensures a.n
+    ∙ ap (λ m. edge_of a.n m c.self.inside.links.entries (a.n, a.d) x) c.cells.ensures
+    ∙ ap (λ z. edge_of a.n z.rows.cells z.links.entries (a.n, a.d) x) c.self.view_is
+    ∙ (rw c.in_ok-c.was at (told g (goal.at.returns g c).After-cell_at))
