@@ -2,7 +2,7 @@
 ghost use Rattle.std.specs.Prelude.{◌≡◌, ◌<◌, length, slice_index_or};
 ghost use Rattle.std.specs.List.{slice_get};
 ghost use Rattle.model.specs.Keys.{keys};
-ghost use Rattle.rows.specs.Walks.{upcoming, first_of};
+ghost use Rattle.rows.specs.Walks.{upcoming};
 ghost use Rattle.adjacency.specs.Heads.{head_of, row_of};
 ghost use Rattle.adjacency.specs.Stages.{Stage, keys_of};
 
@@ -51,14 +51,6 @@ impl<'a, N: NodeTrait> Adjacency<'a, N> {
         ensures { (d : N) → result ≡ slice_index_or (keys_of self.now) c d }
     {
         self.rows.key(c)
-    }
-
-    /// The next cell of the walk whose entry the direction shows, where the row is that of the node. The walk goes on
-    /// after that cell. It ends at a cell that is not in the memory.
-    pub fn advance(&self, asked: Asked<N>, walk: &mut Walk) -> Option<u32>
-        ensures { (e : N) → (result, upcoming (keys N.value N.order) e self.now.cells asked.kind asked.direction (N.value asked.node) walk.new) ≡ first_of (upcoming (keys N.value N.order) e self.now.cells asked.kind asked.direction (N.value asked.node) walk.old) }
-    {
-        self.rows.advance(asked, walk)
     }
 
     /// The cell that `k` cells of the walk come before, of those that the direction shows.

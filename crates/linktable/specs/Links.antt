@@ -1,7 +1,6 @@
 -- What each command answers, and the links then. A link is a pair of accounts with a price.
 use Rattle.std.specs.Prelude.{ℕ, cond, List, [], length, Some, None, Option, ◌==◌}
 use Rattle.std.specs.List.{slice_get}
-use Rattle.keys.specs.Hashes.{spread_of, pair_hash}
 use Rattle.keys.specs.Nodes.{by_number, by_both}
 use Rattle.keys.specs.Order.{alike}
 use Rattle.keys.specs.declared.nodes.Account.{Account}
@@ -72,10 +71,6 @@ performed room links (command.Quote a b) = (quoted links (place_of links a b), l
 performed room links (command.Remove a b) = removed links (place_of links a b)
 performed room links command.List = (answer.Listed (length links), links)
 performed room links command.Clear = (answer.Cleared (length links), [])
-
--- the hash of a link's key
-abbrev pub key_hash : Account × Account → ℕ
-key_hash k = pair_hash (spread_of k.0.0) (spread_of k.1.0)
 
 -- a line of the list
 abbrev pub listed : ℕ → Option Link → Option Line

@@ -1,5 +1,4 @@
-ghost use Rattle.std.specs.Prelude.{◌≡◌, ◌<◌, length};
-ghost use Rattle.keys.specs.Hashes.{spread_of, pair_hash};
+ghost use Rattle.std.specs.Prelude.{◌≡◌};
 ghost use Rattle.linktable.specs.Links.{place_of, added, quoted, taken_by, removed, performed, listed};
 ghost use Rattle.std.specs.List.{slice_get};
 
