@@ -40,6 +40,23 @@ impl<'a, N: NodeTrait> Adjacency<'a, N> {
         }
     }
 
+    /// The nodes of a table, with their rows in the cells, where these fit one another.
+    pub fn from_parts(nodes: Table<'a, N, RowHead>, rows: Rows<'a, N>) -> Self
+        requires stage { Stage N.value N.order (record { nodes = nodes; cells = rows }) }
+        ensures { result ≡ record { nodes = nodes.entry; cells = rows.entry } }
+    {
+        Adjacency { nodes, rows }
+    }
+
+    /// The table of the nodes, and the cells of all rows. They fit one another.
+    pub fn into_parts(self) -> (Table<'a, N, RowHead>, Rows<'a, N>)
+        ensures nodes { result.0 ≡ self.entry.nodes }
+        ensures cells { result.1 ≡ self.entry.cells }
+        ensures stage { Stage N.value N.order self.entry }
+    {
+        (self.nodes, self.rows)
+    }
+
     /// How many nodes there are. Their rows fit one another.
     pub fn len(&self) -> usize
         ensures count { result ≡ length self.now.nodes.entries }
