@@ -11,7 +11,7 @@ ghost use Rattle.adjacency.specs.Stages.{rows_of, keys_of};
 use crate::adjacency::Adjacency;
 use keys::nodes::NodeTrait;
 
-impl<'a, N: NodeTrait> Adjacency<'a, N> {
+impl<'a, 'r, N: NodeTrait> Adjacency<'a, 'r, N> {
     // Puts the cell `c`, which stands in no row, at the end of the row of the node at `i`.
     pub(crate) fn enter(&mut self, i: usize, c: u32)
         requires place { i < length self.old.nodes.entries }

@@ -20,7 +20,7 @@ fn twin_of(c: u32) -> u32
     c ^ 1
 }
 
-impl<'a, N: NodeTrait> Adjacency<'a, N> {
+impl<'a, 'r, N: NodeTrait> Adjacency<'a, 'r, N> {
     /// The cell of the link from `a` to `b` in the row of `a`, which is the one at `i`; that of `b` is at `j`. Of the
     /// two rows the shorter is searched.
     pub fn entry_of(&self, kind: Kind, i: usize, j: usize, a: N, b: N) -> Option<u32>

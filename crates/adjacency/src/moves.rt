@@ -9,7 +9,7 @@ ghost use Rattle.adjacency.specs.Stages.{rows_of, keys_of};
 use crate::adjacency::Adjacency;
 use keys::nodes::NodeTrait;
 
-impl<'a, N: NodeTrait> Adjacency<'a, N> {
+impl<'a, 'r, N: NodeTrait> Adjacency<'a, 'r, N> {
     // Puts the cell `new`, which stands in no row and has the entry of `old`, where `old` stands in the row of `n`.
     fn shift(&mut self, n: N, old: u32, new: u32)
         requires held { standing old (rows_of self.old) ≡ 1 }
