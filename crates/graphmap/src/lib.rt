@@ -5,5 +5,6 @@ pub mod adding;
 mod edges;
 pub mod map;
 pub mod neighbors;
+pub mod parts;
 pub mod questions;
 pub mod removing;
