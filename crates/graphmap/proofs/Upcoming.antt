@@ -1,7 +1,6 @@
 -- The cells that are to come of a walk, over any memory, and of a walk from the start of a row.
 use Rattle.std.proofs.Common.{◌≡◌, ℕ, zero, suc, ◌<◌, ◌≤◌, true, ltb, List, [], ◌∷◌, map, length, get_or, Some, Option, sym, refl, ap, ◌∙◌, subst, ⊎_elim, arith}
 use Rattle.std.specs.List.{slice_get}
-use Rattle.std.proofs.lemmas.List.{length-map}
 use Rattle.std.proofs.lemmas.Simd.{map-map}
 use Rattle.std.proofs.lemmas.Bool.{cases_lt, cases_eq, lt-ltb, le-ltb, cond-true, cond-false}
 use Rattle.keys.specs.declared.kinds.Direction.{Direction}
@@ -67,8 +66,8 @@ module _ {N V : Type 0} (K : Keys N V) (e : N) (mem : List (Cell N)) (kind : Kin
   upcoming_within : (w : Walk) (c : ℕ) → 1 ≤ count c (upcoming K e mem kind d v w) → c < length mem
   upcoming_within w c h = walked_within mem w.at w.left c (count_kept (showing K e mem kind d v) (walked mem w.at w.left) c h).0
 
-  pub place_within : (w : Walk) (k : ℕ) (r : Option ℕ) (c : ℕ) → r ≡ slice_get (upcoming K e mem kind d v w) k → r ≡ Some c → c < length (cell_keys mem)
-  place_within w k r c at is = omega (arith, length-map mem (λ x. x.key), upcoming_within w c (count_place (upcoming K e mem kind d v w) k c (sym is ∙ at)))
+  pub place_within : (w : Walk) (k : ℕ) (r : Option ℕ) (c : ℕ) → r ≡ slice_get (upcoming K e mem kind d v w) k → r ≡ Some c → c < length mem
+  place_within w k r c at is = upcoming_within w c (count_place (upcoming K e mem kind d v w) k c (sym is ∙ at))
 
   pub first_within : (w : Walk) (ys : List ℕ) (r : Option ℕ) (c : ℕ) → ◌≡◌ {A = Option ℕ × List ℕ} (r, ys) (first_of (upcoming K e mem kind d v w)) → r ≡ Some c → c < length mem
   first_within w ys r c at is = upcoming_within w c (first_count (upcoming K e mem kind d v w) ys r c at is)
