@@ -5,7 +5,6 @@ use Rattle.std.specs.Option.{option_map, option_flatten}
 use Rattle.keys.specs.Order.{Laws}
 use Rattle.keys.specs.declared.kinds.Direction.{Direction}
 use Rattle.keys.specs.declared.kinds.Direction.TheVariants.{Outgoing}
-use Rattle.keys.specs.declared.kinds.Kind.{Kind}
 use Rattle.keys.specs.declared.kinds.Kind.TheVariants.{Undirected}
 use Rattle.model.specs.Keys.{Keys, keys}
 use Rattle.model.specs.Lists.{kept}

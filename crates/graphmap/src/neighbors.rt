@@ -33,7 +33,8 @@ impl<'a, N: NodeTrait, E: Copy> GraphMap<'a, N, E> {
         ensures edges { (e : N) → map (edge_of e self.now.rows.cells self.now.links.entries (n, d)) (coming (keys N.value N.order) e self.now.rows.cells self.now.kind result) ≡ map Present (edge_list (keys N.value N.order) n d (state_of self.now)) }
     {
         let nodes = self.adjacency.nodes();
-        neighbors_from(self.kind, nodes, &self.links, self.adjacency.cells(), n, d)
+        let cells = self.adjacency.cells();
+        neighbors_from(self.kind, nodes, &self.links, cells, n, d)
     }
 
     /// The next neighbour of the walk.

@@ -31,7 +31,14 @@ impl<'a, N: NodeTrait, E: Copy> GraphMap<'a, N, E> {
     }
 
     /// The kind, the table of the nodes, the table of the links, and the cells of all rows. They fit one another.
-    pub fn into_parts(self) -> (Kind, Table<'a, N, RowHead>, Table<'a, (N, N), E>, Rows<'a, N>)
+    pub fn into_parts(
+        self,
+    ) -> (
+        Kind,
+        Table<'a, N, RowHead>,
+        Table<'a, (N, N), E>,
+        Rows<'a, N>,
+    )
         ensures parts { parts_of result.0 result.1 result.2 result.3 ≡ self.entry }
         ensures sound { SoundParts N.value N.order (parts_of result.0 result.1 result.2 result.3) }
     {

@@ -25,7 +25,8 @@ impl<'a, N: NodeTrait, E: Copy> GraphMap<'a, N, E> {
         ensures { result ≡ degree_of (keys N.value N.order) n (state_of self.now) }
     {
         let nodes = self.adjacency.nodes();
-        degree(self.kind, nodes, &self.links, self.adjacency.cells(), n)
+        let cells = self.adjacency.cells();
+        degree(self.kind, nodes, &self.links, cells, n)
     }
 
     /// The entry of the row of `n` that `k` entries come before: the key of the other end, and the direction.
@@ -33,7 +34,8 @@ impl<'a, N: NodeTrait, E: Copy> GraphMap<'a, N, E> {
         ensures { result ≡ slice_get (row_list (keys N.value N.order) n (state_of self.now)) k }
     {
         let nodes = self.adjacency.nodes();
-        row_entry(self.kind, nodes, &self.links, self.adjacency.cells(), n, k)
+        let cells = self.adjacency.cells();
+        row_entry(self.kind, nodes, &self.links, cells, n, k)
     }
 
     /// The neighbour of `n` in the direction `d` that `k` neighbours come before.
@@ -41,7 +43,8 @@ impl<'a, N: NodeTrait, E: Copy> GraphMap<'a, N, E> {
         ensures { result ≡ slice_get (neighbor_list (keys N.value N.order) n d (state_of self.now)) k }
     {
         let nodes = self.adjacency.nodes();
-        neighbor(self.kind, nodes, &self.links, self.adjacency.cells(), n, d, k)
+        let cells = self.adjacency.cells();
+        neighbor(self.kind, nodes, &self.links, cells, n, d, k)
     }
 
     /// The edge of `n` in the direction `d` that `k` edges come before. Its link is found by the cell of the entry, with
@@ -50,7 +53,8 @@ impl<'a, N: NodeTrait, E: Copy> GraphMap<'a, N, E> {
         ensures { result ≡ slice_get (edge_list (keys N.value N.order) n d (state_of self.now)) k }
     {
         let nodes = self.adjacency.nodes();
-        edge(self.kind, nodes, &self.links, self.adjacency.cells(), n, d, k)
+        let cells = self.adjacency.cells();
+        edge(self.kind, nodes, &self.links, cells, n, d, k)
     }
 }
 
