@@ -8,3 +8,5 @@ pub mod neighbors;
 pub mod parts;
 pub mod questions;
 pub mod removing;
+#[cfg(test)]
+mod tests;
