@@ -6,10 +6,10 @@ ghost use Rattle.rows.specs.HalfEdges.{side, twin};
 ghost use Rattle.halfedges.specs.Cells.{standing, named, noded, moved, Whole, Off};
 ghost use Rattle.adjacency.specs.Stages.{rows_of, keys_of};
 
-use crate::adjacency::Adjacency;
+use crate::adjacency::NodesWithRows;
 use keys::nodes::NodeTrait;
 
-impl<'a, 'r, N: NodeTrait> Adjacency<'a, 'r, N> {
+impl<'a, 'r, N: NodeTrait> NodesWithRows<'a, 'r, N> {
     // Puts the cell `new`, which stands in no row and has the entry of `old`, where `old` stands in the row of `n`.
     fn shift(&mut self, n: N, old: u32, new: u32)
         requires held { standing old (rows_of self.old) ≡ 1 }

@@ -6,7 +6,7 @@ ghost use Rattle.rows.specs.Walks.{upcoming};
 ghost use Rattle.adjacency.specs.Heads.{head_of, row_of};
 ghost use Rattle.adjacency.specs.Stages.{Stage, keys_of};
 
-use crate::adjacency::Adjacency;
+use crate::adjacency::NodesWithRows;
 use keys::nodes::NodeTrait;
 use rows::asked::Asked;
 use rows::cells::{Cell, RowHead};
@@ -28,7 +28,7 @@ pub fn row_of<N: NodeTrait>(nodes: &Table<'_, N, RowHead>, n: &N) -> RowHead
     head_of(nodes, n).unwrap_or(RowHead::empty())
 }
 
-impl<'a, 'r, N: NodeTrait> Adjacency<'a, 'r, N> {
+impl<'a, 'r, N: NodeTrait> NodesWithRows<'a, 'r, N> {
     /// The table of the nodes, each with the head of its row. Their rows fit one another.
     pub fn nodes(&self) -> &Table<'a, N, RowHead>
         ensures table { result.now ≡ self.now.nodes }

@@ -7,7 +7,7 @@ ghost use Rattle.graphmap.specs.Parts.{Sound, SoundParts, link_search, parts_of,
 
 use crate::map::GraphMap;
 use crate::parts::{put_back, taken};
-use adjacency::adjacency::Adjacency;
+use adjacency::adjacency::NodesWithRows;
 use adjacency::joins::lacking;
 use keys::kinds::Kind;
 use keys::nodes::NodeTrait;
@@ -30,7 +30,7 @@ pub fn edge_key<N: NodeTrait>(kind: Kind, a: N, b: N) -> (N, N)
 // Adds a link that is not there, where there is room. `v` is what the search for its key answered.
 fn add_new<N: NodeTrait, E: Copy>(
     kind: Kind,
-    adjacency: &mut Adjacency<'_, '_, N>,
+    adjacency: &mut NodesWithRows<'_, '_, N>,
     links: &mut Table<'_, (N, N), E>,
     a: N,
     b: N,
@@ -60,7 +60,7 @@ fn add_new<N: NodeTrait, E: Copy>(
 // Adds the link from `a` to `b`, or gives it another weight where it is there.
 fn add_link<N: NodeTrait, E: Copy>(
     kind: Kind,
-    adjacency: &mut Adjacency<'_, '_, N>,
+    adjacency: &mut NodesWithRows<'_, '_, N>,
     links: &mut Table<'_, (N, N), E>,
     a: N,
     b: N,

@@ -18,7 +18,7 @@ use table::table::Table;
 #[derive(Drop)]
 pub struct GraphMap<'a, N: NodeTrait, E: Copy> {
     pub(crate) kind: Kind,
-    pub(crate) adjacency: Adjacency<'a, 'a, N>,
+    pub(crate) adjacency: Adjacency<'a, N>,
     pub(crate) links: Table<'a, (N, N), E>,
 }
 

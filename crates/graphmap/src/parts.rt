@@ -4,7 +4,7 @@ ghost use Rattle.adjacency.specs.Stages.{Stage};
 ghost use Rattle.graphmap.specs.Parts.{SoundParts, parts_of};
 
 use crate::map::GraphMap;
-use adjacency::adjacency::Adjacency;
+use adjacency::adjacency::{Adjacency, NodesWithRows};
 use keys::kinds::Kind;
 use keys::nodes::NodeTrait;
 use rows::cells::RowHead;
@@ -51,18 +51,18 @@ impl<'a, N: NodeTrait, E: Copy> GraphMap<'a, N, E> {
 pub(crate) fn taken<'a, 'r, N: NodeTrait>(
     nodes: &mut Table<'a, N, RowHead>,
     rows: &mut Rows<'r, N>,
-) -> Adjacency<'a, 'r, N>
+) -> NodesWithRows<'a, 'r, N>
     requires stage { Stage N.value N.order (record { nodes = nodes.old; cells = rows.old }) }
     ensures { result ≡ record { nodes = nodes.old; cells = rows.old } }
 {
     let nodes = mem::replace(nodes, Table::new(&mut []));
     let rows = mem::replace(rows, Rows::new(&mut []));
-    Adjacency::from_parts(nodes, rows)
+    NodesWithRows::from_parts(nodes, rows)
 }
 
 // Puts the nodes and their rows into the table and the rows.
 pub(crate) fn put_back<'a, 'r, N: NodeTrait>(
-    adjacency: Adjacency<'a, 'r, N>,
+    adjacency: NodesWithRows<'a, 'r, N>,
     nodes: &mut Table<'a, N, RowHead>,
     rows: &mut Rows<'r, N>,
 )

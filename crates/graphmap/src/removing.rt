@@ -6,7 +6,7 @@ ghost use Rattle.graphmap.specs.Parts.{Sound, SoundParts, parts_of, state_of};
 
 use crate::map::GraphMap;
 use crate::parts::{put_back, taken};
-use adjacency::adjacency::Adjacency;
+use adjacency::adjacency::NodesWithRows;
 use keys::kinds::Kind;
 use keys::nodes::NodeTrait;
 use rows::cells::RowHead;
@@ -16,7 +16,7 @@ use table::table::Table;
 // Takes out the link from `a` to `b` and answers its weight.
 fn remove_link<N: NodeTrait, E: Copy>(
     kind: Kind,
-    adjacency: &mut Adjacency<'_, '_, N>,
+    adjacency: &mut NodesWithRows<'_, '_, N>,
     links: &mut Table<'_, (N, N), E>,
     a: N,
     b: N,

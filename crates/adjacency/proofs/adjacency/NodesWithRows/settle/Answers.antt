@@ -5,7 +5,7 @@ use Rattle.halfedges.specs.Cells.{standing}
 use Rattle.halfedges.proofs.Moves.{whole_last}
 use Rattle.adjacency.specs.Stages.{rows_of, keys_of}
 use Rattle.adjacency.proofs.Settled.{last, shifted, shifted_other, last_first, last_second, settled_one, settled_two}
-use Rattle.adjacency.proofs.adjacency.Adjacency.settle.Goals as goal
+use Rattle.adjacency.proofs.adjacency.NodesWithRows.settle.Goals as goal
 
 pub returns-then-g-l-clause-whole : goal.returns-then-g-l-clause-whole
 returns-then-g-l-clause-whole g c d =

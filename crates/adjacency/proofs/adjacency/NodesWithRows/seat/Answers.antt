@@ -9,8 +9,8 @@ use Rattle.model.specs.Keys.{keys, eq}
 use Rattle.rows.specs.Links.{bare}
 use Rattle.adjacency.specs.Seats.{vacant, seat_by, seated_in}
 use Rattle.adjacency.proofs.Seating.{found_vacant, seated_place, seated_stage}
-use Rattle.adjacency.proofs.adjacency.Adjacency.seat.Given as given
-use Rattle.adjacency.proofs.adjacency.Adjacency.seat.Goals as goal
+use Rattle.adjacency.proofs.adjacency.NodesWithRows.seat.Given as given
+use Rattle.adjacency.proofs.adjacency.NodesWithRows.seat.Goals as goal
 
 -- an absent node is put at the end
 module _ (g : given.Over) (c : goal.After-append g) where

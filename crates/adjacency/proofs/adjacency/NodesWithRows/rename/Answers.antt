@@ -7,8 +7,8 @@ use Rattle.halfedges.specs.Cells.{row_at}
 use Rattle.adjacency.specs.Stages.{rows_of, keys_of}
 use Rattle.adjacency.proofs.RowEdits.{Edited, opened, place_row, cell_in, head_linked, head_fresh, head_held, off_new, row_was, edited}
 use Rattle.adjacency.proofs.Gains.{gained_set}
-use Rattle.adjacency.proofs.adjacency.Adjacency.rename.Given as given
-use Rattle.adjacency.proofs.adjacency.Adjacency.rename.Goals as goal
+use Rattle.adjacency.proofs.adjacency.NodesWithRows.rename.Given as given
+use Rattle.adjacency.proofs.adjacency.NodesWithRows.rename.Goals as goal
 
 pub replace-requires : goal.replace-requires
 replace-requires g c =

@@ -16,7 +16,7 @@ use Rattle.adjacency.proofs.Entries.{rowed_length}
 use Rattle.adjacency.proofs.Gains.{pushed_standing}
 use Rattle.adjacency.proofs.Owners.{owner_at}
 use Rattle.adjacency.proofs.Seating.{node_position, noded_then, standing_then, seated_length, seated_other}
-use Rattle.adjacency.proofs.adjacency.Adjacency.note.Goals as goal
+use Rattle.adjacency.proofs.adjacency.NodesWithRows.note.Goals as goal
 
 pub enter-requires : goal.enter-requires
 enter-requires g c =

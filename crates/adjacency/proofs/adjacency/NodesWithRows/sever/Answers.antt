@@ -7,7 +7,7 @@ use Rattle.halfedges.proofs.Rows.{read_other}
 use Rattle.adjacency.specs.Stages.{NodeRows, rows_of}
 use Rattle.adjacency.proofs.Entries.{some_of, rowed_length}
 use Rattle.adjacency.proofs.Ranges.{length_rowed_put}
-use Rattle.adjacency.proofs.adjacency.Adjacency.sever.Goals as goal
+use Rattle.adjacency.proofs.adjacency.NodesWithRows.sever.Goals as goal
 
 pub leave-requires-2-clause-place : goal.leave-requires-2-clause-place
 leave-requires-2-clause-place g c =

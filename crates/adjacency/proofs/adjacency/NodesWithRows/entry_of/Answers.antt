@@ -9,7 +9,7 @@ use Rattle.rows.specs.HalfEdges.{side, twin}
 use Rattle.halfedges.specs.Cells.{twinned}
 use Rattle.adjacency.specs.Stages.{keys_of}
 use Rattle.adjacency.proofs.RowEdits.{opened, head_linked, row_was}
-use Rattle.adjacency.proofs.adjacency.Adjacency.entry_of.Goals as goal
+use Rattle.adjacency.proofs.adjacency.NodesWithRows.entry_of.Goals as goal
 
 twinned_is : (o : Option ℕ) → option_map twin o ≡ twinned o
 twinned_is None = refl

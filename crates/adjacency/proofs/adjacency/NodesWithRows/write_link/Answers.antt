@@ -3,8 +3,8 @@ use Rattle.std.proofs.lemmas.List.{length-map}
 use Rattle.halfedges.specs.Cells.{standing, noded, wrote}
 use Rattle.adjacency.specs.Stages.{rows_of, keys_of}
 use Rattle.adjacency.proofs.Writes.{Still, written}
-use Rattle.adjacency.proofs.adjacency.Adjacency.write_link.Given as given
-use Rattle.adjacency.proofs.adjacency.Adjacency.write_link.Goals as goal
+use Rattle.adjacency.proofs.adjacency.NodesWithRows.write_link.Given as given
+use Rattle.adjacency.proofs.adjacency.NodesWithRows.write_link.Goals as goal
 
 still : (g : given.Over) (c : goal.After-set_key-2 g)
     → Still g.N.NodeTrait.value g.N.NodeTrait.order (record { nodes = c.self.inside.nodes; cells = c.self.inside.rows }) (record { nodes = c.self.inside.nodes; cells = c.set_key-2.new.self }) c.args.p c.args.a c.args.b

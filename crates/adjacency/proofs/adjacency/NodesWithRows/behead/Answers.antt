@@ -6,8 +6,8 @@ use Rattle.halfedges.specs.Cells.{row_at, put_row}
 use Rattle.adjacency.specs.Stages.{NodeRows, rows_of, keys_of}
 use Rattle.adjacency.proofs.RowEdits.{Edited, opened, place_row, head_linked, head_some, off_here, row_was, edited}
 use Rattle.adjacency.proofs.Gains.{gained_rest}
-use Rattle.adjacency.proofs.adjacency.Adjacency.behead.Given as given
-use Rattle.adjacency.proofs.adjacency.Adjacency.behead.Goals as goal
+use Rattle.adjacency.proofs.adjacency.NodesWithRows.behead.Given as given
+use Rattle.adjacency.proofs.adjacency.NodesWithRows.behead.Goals as goal
 
 pub pop_first-first-requires : goal.pop_first-first-requires
 pop_first-first-requires g c =

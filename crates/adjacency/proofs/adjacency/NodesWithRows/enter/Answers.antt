@@ -4,8 +4,8 @@ use Rattle.halfedges.specs.Cells.{row_at}
 use Rattle.adjacency.specs.Stages.{rows_of, keys_of}
 use Rattle.adjacency.proofs.RowEdits.{Edited, opened, place_row, cell_in, head_linked, head_fresh, head_room, off_new, row_was, edited}
 use Rattle.adjacency.proofs.Gains.{gained_push}
-use Rattle.adjacency.proofs.adjacency.Adjacency.enter.Given as given
-use Rattle.adjacency.proofs.adjacency.Adjacency.enter.Goals as goal
+use Rattle.adjacency.proofs.adjacency.NodesWithRows.enter.Given as given
+use Rattle.adjacency.proofs.adjacency.NodesWithRows.enter.Goals as goal
 
 pub append-requires : goal.append-requires
 append-requires g c =

@@ -8,8 +8,8 @@ use Rattle.halfedges.specs.Cells.{row_at}
 use Rattle.adjacency.specs.Stages.{rows_of, keys_of}
 use Rattle.adjacency.proofs.RowEdits.{Edited, opened, place_row, head_linked, head_held, off_here, row_was, edited}
 use Rattle.adjacency.proofs.Gains.{gained_less}
-use Rattle.adjacency.proofs.adjacency.Adjacency.leave.Given as given
-use Rattle.adjacency.proofs.adjacency.Adjacency.leave.Goals as goal
+use Rattle.adjacency.proofs.adjacency.NodesWithRows.leave.Given as given
+use Rattle.adjacency.proofs.adjacency.NodesWithRows.leave.Goals as goal
 
 pub swap_remove-requires : goal.swap_remove-requires
 swap_remove-requires g c =

@@ -15,8 +15,8 @@ use Rattle.adjacency.proofs.Gains.{set_standing}
 use Rattle.adjacency.proofs.Seating.{found_vacant, found_ok}
 use Rattle.adjacency.proofs.Owners.{owner_at, never_absent, in_its_row}
 use Rattle.adjacency.proofs.Writes.{stands_within}
-use Rattle.adjacency.proofs.adjacency.Adjacency.shift.Given as given
-use Rattle.adjacency.proofs.adjacency.Adjacency.shift.Goals as goal
+use Rattle.adjacency.proofs.adjacency.NodesWithRows.shift.Given as given
+use Rattle.adjacency.proofs.adjacency.NodesWithRows.shift.Goals as goal
 
 -- the row that has the cell is at i
 module _ (g : given.Over) (c : goal.After-rename-arg-1 g) where

@@ -7,7 +7,7 @@ use Rattle.halfedges.specs.Cells.{standing, noded}
 use Rattle.halfedges.proofs.Counts.{bit_other}
 use Rattle.adjacency.specs.Stages.{rows_of, keys_of}
 use Rattle.adjacency.proofs.Joining.{next_off, whole_one, whole_two, joined_one, joined_two}
-use Rattle.adjacency.proofs.adjacency.Adjacency.join.Goals as goal
+use Rattle.adjacency.proofs.adjacency.NodesWithRows.join.Goals as goal
 
 -- how often each cell stands when the first one was put into a row
 first_noted : {N : Type 0} {ns₀ ns : List (N × List ℕ)} (ns' : List (N × List ℕ)) (c : ℕ) → ns ≡ ns₀ → ((x : ℕ) → standing x ns' ≡ standing x ns + bit (x == c)) → (x : ℕ) → standing x ns' ≡ standing x ns₀ + bit (x == c)
