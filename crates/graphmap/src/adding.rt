@@ -8,7 +8,7 @@ ghost use Rattle.graphmap.specs.Parts.{link_search, state_of};
 use crate::map::GraphMap;
 use adjacency::joins::lacking;
 use keys::kinds::Kind;
-use keys::nodes::NodeTrait;
+use keys::nodes::{Compare, NodeTrait, same};
 use keys::refusals::Refusal;
 use table::table::Vacancy;
 
@@ -16,7 +16,7 @@ use table::table::Vacancy;
 pub fn edge_key<N: NodeTrait>(kind: Kind, a: N, b: N) -> (N, N)
     ensures { result ≡ edge_key (keys N.value N.order) kind a b }
 {
-    if kind.is_directed() || a <= b {
+    if kind.is_directed() || a.compare(&b).is_le() {
         (a, b)
     } else {
         (b, a)
@@ -35,7 +35,7 @@ impl<'a, N: NodeTrait, E: Copy> GraphMap<'a, N, E> {
         }
         let first = self.adjacency.find(&a);
         let second = self.adjacency.find(&b);
-        let more = lacking(first, second, a == b);
+        let more = lacking(first, second, same(&a, &b));
         if self.adjacency.room() - self.adjacency.len() < more {
             return Err(Refusal::NodesFull);
         }

@@ -15,9 +15,9 @@ use Rattle.graphmap.proofs.map.GraphMap.add_edge.Goals as goal
 
 -- the link is at p
 module _ (g : given.Over) (c : goal.After-set_value g) where
-  at : position (is_link (keys g.N.NodeTrait.value g.N.NodeTrait.order) (canon (keys g.N.NodeTrait.value g.N.NodeTrait.order) c.self.inside.kind (g.N.NodeTrait.value c.args.a) (g.N.NodeTrait.value c.args.b))) c.self.inside.links.entries ≡ Some c.in-Ok.p
+  at : position (is_link (keys g.N.Compare.value g.N.Compare.order) (canon (keys g.N.Compare.value g.N.Compare.order) c.self.inside.kind (g.N.Compare.value c.args.a) (g.N.Compare.value c.args.b))) c.self.inside.links.entries ≡ Some c.in-Ok.p
   at =
-      sym (link_sought (keys g.N.NodeTrait.value g.N.NodeTrait.order) c.self.inside.kind c.args.a c.args.b c.self.inside.links.entries _ c.edge_key.ensures)
+      sym (link_sought (keys g.N.Compare.value g.N.Compare.order) c.self.inside.kind c.args.a c.args.b c.self.inside.links.entries _ c.edge_key.ensures)
       ∙ found_ok _ _ c.in-Ok.p (sym c.find.ensures ∙ c.in-Ok.is)
 
   place : c.in-Ok.p < length c.self.inside.links.entries
@@ -33,7 +33,7 @@ invariant_of-self g c =
 
 pub returns-in-Ok : goal.returns-in-Ok
 returns-in-Ok g c =
-    let K = keys g.N.NodeTrait.value g.N.NodeTrait.order in
+    let K = keys g.N.Compare.value g.N.Compare.order in
     let m : Parts g.row.N.Denot g.row.E.Denot = record { kind = c.self.inside.kind; rows = c.self.inside.adjacency; links = c.self.inside.links } in
     let ls = m.links.entries in
     let p = c.in-Ok.p in
@@ -48,7 +48,7 @@ returns-in-Ok g c =
 
 pub add_new-requires : goal.add_new-requires
 add_new-requires g c =
-    let K = keys g.N.NodeTrait.value g.N.NodeTrait.order in
+    let K = keys g.N.Compare.value g.N.Compare.order in
     let m : Parts g.row.N.Denot g.row.E.Denot = record { kind = c.self.inside.kind; rows = c.self.inside.adjacency; links = c.self.inside.links } in
     record {
       absent = sym (ap (λ z. link_search K.value K.order g.N.NodeTrait.hashed z c.args.a c.args.b) c.self.view_is)
@@ -59,7 +59,7 @@ add_new-requires g c =
 
 pub returns-in-Err : goal.returns-in-Err
 returns-in-Err g c =
-    let K = keys g.N.NodeTrait.value g.N.NodeTrait.order in
+    let K = keys g.N.Compare.value g.N.Compare.order in
     let m : Parts g.row.N.Denot g.row.E.Denot = record { kind = c.self.inside.kind; rows = c.self.inside.adjacency; links = c.self.inside.links } in
     let ls = m.links.entries in
     let κ = canon K m.kind (K.value c.args.a) (K.value c.args.b) in

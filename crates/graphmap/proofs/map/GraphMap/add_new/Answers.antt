@@ -1,6 +1,5 @@
 use Rattle.std.proofs.Common.{◌≡◌, ◌+◌, ◌/◌, ◌<◌, min, [], ◌∷◌, ◌++◌, length, None, Ok, Err, sym, ap, ◌∙◌, subst, arith}
 use Rattle.std.proofs.lemmas.Bool.{cond-true, cond-false, lt-leb, le-ltb, lt-ltb}
-use Rattle.keys.specs.Laws.{equal_alike}
 use Rattle.keys.specs.declared.refusals.Refusal.TheVariants.{NodesFull}
 use Rattle.model.specs.Keys.{keys}
 use Rattle.model.specs.Maps.{edge_key, wanted}
@@ -20,20 +19,20 @@ use Rattle.graphmap.proofs.map.GraphMap.add_new.Goals as goal
 
 pub returns-then-room-len : goal.returns-then-room-len
 returns-then-room-len g c =
-    let K = keys g.N.NodeTrait.value g.N.NodeTrait.order in
+    let K = keys g.N.Compare.value g.N.Compare.order in
     let m : Parts g.row.N.Denot g.row.E.Denot = record { kind = c.self.inside.kind; rows = c.self.inside.adjacency; links = c.self.inside.links } in
     let a = c.args.a in
     let b = c.args.b in
     let ns = noded (keys_of m.rows) (rows_of m.rows) in
     let free = lt-leb (min m.links.room (length (keys_of m.rows) / 2)) (length m.links.entries) (omega (arith, c.len-p.ensures, c.capacity.ensures, c.link_room.ensures)) in
     let more = c.lacking-more.ensures
-    ∙ lacking_wanted K a b _ _ m.rows c.find-first.ensures.found c.find-second.ensures.found (c.eq.ensures ∙ equal_alike g.N.NodeTrait.value g.N.NodeTrait.order g.met.N.NodeTrait.compares g.met.N.Ord.matches_eq _ _) in
+    ∙ lacking_wanted K a b _ _ m.rows c.find-first.ensures.found c.find-second.ensures.found c.same.ensures in
     let full = lt-ltb m.rows.nodes.room (length ns + wanted K a b ns) (omega (arith, c.len.ensures.count, c.room.ensures, length_noded (keys_of m.rows) (rows_of m.rows), rowed_length m.rows.cells m.rows.nodes.entries)) in
     subst (λ z. (Err NodesFull, state_of z) ≡ add_new K a b c.args.w (state_of z)) c.self.view_is (sym (cond-false _ _ _ free ∙ cond-true _ _ _ full))
 
 pub append-requires : goal.append-requires
 append-requires g c =
-    let K = keys g.N.NodeTrait.value g.N.NodeTrait.order in
+    let K = keys g.N.Compare.value g.N.Compare.order in
     let m : Parts g.row.N.Denot g.row.E.Denot = record { kind = c.self.inside.kind; rows = c.self.inside.adjacency; links = c.self.inside.links } in
     record {
       absent = key_search K.value K.order g.N.NodeTrait.hashed m c.args.a c.args.b c.edge_key.result c.edge_key.ensures
@@ -46,18 +45,18 @@ module _ (g : given.Over) (c : goal.After-append g) where
   room : length c.self.inside.links.entries < min c.self.inside.links.room (length (keys_of c.self.inside.adjacency) / 2)
   room = omega (arith, c.len-p.ensures, c.capacity.ensures, c.link_room.ensures)
 
-  more_links : c.append.new.self.entries ≡ c.self.inside.links.entries ++ (edge_key (keys g.N.NodeTrait.value g.N.NodeTrait.order) c.self.inside.kind c.args.a c.args.b, c.args.w) ∷ []
+  more_links : c.append.new.self.entries ≡ c.self.inside.links.entries ++ (edge_key (keys g.N.Compare.value g.N.Compare.order) c.self.inside.kind c.args.a c.args.b, c.args.w) ∷ []
   more_links =
       added c.self.inside.links.entries c.self.inside.links.room _ c.append.ensures.done (omega (arith, room))
       ∙ ap (λ q. c.self.inside.links.entries ++ (q, c.args.w) ∷ []) c.edge_key.ensures
 
 pub invariant_of-self : goal.invariant_of-self
 invariant_of-self g c =
-    let K = keys g.N.NodeTrait.value g.N.NodeTrait.order in
+    let K = keys g.N.Compare.value g.N.Compare.order in
     let m : Parts g.row.N.Denot g.row.E.Denot = record { kind = c.self.inside.kind; rows = c.self.inside.adjacency; links = c.self.inside.links } in
     let p = c.len-p.ensures in
     let off =
-    search_absent K.value K.order g.met.N.NodeTrait.ordered g.N.NodeTrait.hashed m c.args.a c.args.b c.args.v
+    search_absent K.value K.order g.met.N.Compare.ordered g.N.NodeTrait.hashed m c.args.a c.args.b c.args.v
     (ap (λ z. link_search K.value K.order g.N.NodeTrait.hashed z c.args.a c.args.b) c.self.view_is ∙ c.requires.absent) in
     sound_more c.self.invariant c.args.a c.args.b c.args.w c.join.new.self c.append.new.self (omega (arith, room g c)) off (more_links g c)
     (c.join.ensures.keys ∙ ap (λ z. wrote (keys_of m.rows) z c.args.a c.args.b) p)
@@ -65,7 +64,7 @@ invariant_of-self g c =
 
 pub returns : goal.returns
 returns g c =
-    let K = keys g.N.NodeTrait.value g.N.NodeTrait.order in
+    let K = keys g.N.Compare.value g.N.Compare.order in
     let m : Parts g.row.N.Denot g.row.E.Denot = record { kind = c.self.inside.kind; rows = c.self.inside.adjacency; links = c.self.inside.links } in
     let a = c.args.a in
     let b = c.args.b in
@@ -75,7 +74,7 @@ returns g c =
     let j = c.join.ensures in
     let free = lt-leb (min m.links.room (length ks / 2)) (length m.links.entries) (room g c) in
     let more = c.lacking-more.ensures
-    ∙ lacking_wanted K a b _ _ m.rows c.find-first.ensures.found c.find-second.ensures.found (c.eq.ensures ∙ equal_alike g.N.NodeTrait.value g.N.NodeTrait.order g.met.N.NodeTrait.compares g.met.N.Ord.matches_eq _ _) in
+    ∙ lacking_wanted K a b _ _ m.rows c.find-first.ensures.found c.find-second.ensures.found c.same.ensures in
     let has = le-ltb m.rows.nodes.room (length ns + wanted K a b ns) (omega (arith, c.len.ensures.count, c.room.ensures, c.find-first.ensures.stage.fits, length_noded ks (rows_of m.rows), rowed_length m.rows.cells m.rows.nodes.entries)) in
     let same : length (keys_of c.join.new.self) ≡ length ks = ap length j.keys ∙ length_wrote a ks c.len-p.result a b in
     (λ i. (Ok None, record { kind = m.kind; node_room = j.room i; link_room = min (c.append.ensures.room i) (same i / 2); nodes = j.joined i; links = more_links g c i }))

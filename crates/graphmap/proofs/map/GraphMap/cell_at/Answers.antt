@@ -7,7 +7,7 @@ use Rattle.graphmap.proofs.map.GraphMap.cell_at.Goals as goal
 
 pub returns : goal.returns
 returns g c =
-    let K = keys g.N.NodeTrait.value g.N.NodeTrait.order in
+    let K = keys g.N.Compare.value g.N.Compare.order in
     let a = c.args in
     let mem = c.self.inside.adjacency.cells in
     rw (← c.self.view_is) (record {

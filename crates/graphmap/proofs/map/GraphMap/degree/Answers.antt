@@ -10,4 +10,4 @@ returns g c =
     rw (← c.self.view_is)
     (turned
     ∙ ap (option_map (λ h. h.len)) c.head.ensures.head
-    ∙ degree_told (record { kind = c.self.inside.kind; rows = c.self.inside.adjacency; links = c.self.inside.links }) g.met.N.NodeTrait.ordered c.head.ensures.stage c.args.n)
+    ∙ degree_told (record { kind = c.self.inside.kind; rows = c.self.inside.adjacency; links = c.self.inside.links }) g.met.N.Compare.ordered c.head.ensures.stage c.args.n)

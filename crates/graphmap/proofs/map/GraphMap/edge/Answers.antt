@@ -11,11 +11,11 @@ use Rattle.graphmap.proofs.map.GraphMap.edge.Goals as goal
 use Rattle.graphmap.proofs.map.GraphMap.edge.Goals.{After-cell_at}
 
 told : (g : given.Over) (c : After-cell_at g) → option_flatten (option_map (edge_of c.args.n c.args.self.now.rows.cells c.args.self.now.links.entries (c.args.n, c.args.d)) c.cell_at.result)
-    ≡ slice_get (edge_list (keys g.N.NodeTrait.value g.N.NodeTrait.order) c.args.n c.args.d (state_of c.args.self.now)) c.args.k
+    ≡ slice_get (edge_list (keys g.N.Compare.value g.N.Compare.order) c.args.n c.args.d (state_of c.args.self.now)) c.args.k
 told g c =
     let a = c.args in
     let cell = c.cell_at.ensures in
-    edge_told a.self.now g.met.N.NodeTrait.ordered cell.stage a.n a.n a.d (rw (← c.self.view_is) c.self.invariant) a.k _ c.self.inside.kind (ap (λ z. z.kind) c.self.view_is) (cell.cell a.n)
+    edge_told a.self.now g.met.N.Compare.ordered cell.stage a.n a.n a.d (rw (← c.self.view_is) c.self.invariant) a.k _ c.self.inside.kind (ap (λ z. z.kind) c.self.view_is) (cell.cell a.n)
 
 pub returns-in_err-c : goal.returns-in_err-c
 returns-in_err-c g c = c.from_residual.ensures ∙ (rw c.in_err-c.was at (told g (goal.at.returns-in_err-c g c).After-cell_at))

@@ -11,11 +11,11 @@ use Rattle.graphmap.proofs.map.GraphMap.neighbor.Goals as goal
 use Rattle.graphmap.proofs.map.GraphMap.neighbor.Goals.{After-cell_at}
 
 told : (g : given.Over) (c : After-cell_at g) → option_map (key_of c.args.n c.args.self.now.rows.cells) c.cell_at.result
-    ≡ slice_get (neighbor_list (keys g.N.NodeTrait.value g.N.NodeTrait.order) c.args.n c.args.d (state_of c.args.self.now)) c.args.k
+    ≡ slice_get (neighbor_list (keys g.N.Compare.value g.N.Compare.order) c.args.n c.args.d (state_of c.args.self.now)) c.args.k
 told g c =
     let a = c.args in
     let cell = c.cell_at.ensures in
-    neighbor_told a.self.now g.met.N.NodeTrait.ordered cell.stage a.n a.n a.d a.k _ c.self.inside.kind (ap (λ z. z.kind) c.self.view_is) (cell.cell a.n)
+    neighbor_told a.self.now g.met.N.Compare.ordered cell.stage a.n a.n a.d a.k _ c.self.inside.kind (ap (λ z. z.kind) c.self.view_is) (cell.cell a.n)
 
 pub returns-in_err-c : goal.returns-in_err-c
 returns-in_err-c g c = c.from_residual.ensures ∙ (rw c.in_err-c.was at (told g (goal.at.returns-in_err-c g c).After-cell_at))

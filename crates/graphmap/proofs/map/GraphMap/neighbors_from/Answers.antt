@@ -8,13 +8,13 @@ use Rattle.graphmap.proofs.map.GraphMap.neighbors_from.Goals as goal
 
 pub returns : goal.returns
 returns g c =
-    let K = keys g.N.NodeTrait.value g.N.NodeTrait.order in
+    let K = keys g.N.Compare.value g.N.Compare.order in
     let a = c.args in
     let m = c.self.inside in
     let mem = m.adjacency.cells in
     let p : Parts _ _ = record { kind = m.kind; rows = m.adjacency; links = m.links } in
     let from = c.of.ensures ∙ ap walk_of c.row.ensures.row in
-    let laws = g.met.N.NodeTrait.ordered in
+    let laws = g.met.N.Compare.ordered in
     let stage = c.row.ensures.stage in
     rw (← c.self.view_is) (record {
       origin = refl;

@@ -12,8 +12,8 @@ use Rattle.graphmap.proofs.map.GraphMap.row_entry.Goals as goal
 use Rattle.graphmap.proofs.map.GraphMap.row_entry.Goals.{After-cell_at}
 
 told : (g : given.Over) (c : After-cell_at g) → option_map (entry c.args.n (keys_of c.args.self.now.rows)) c.cell_at.result
-    ≡ slice_get (row_list (keys g.N.NodeTrait.value g.N.NodeTrait.order) c.args.n (state_of c.args.self.now)) c.args.k
-told g c = entry_told c.args.self.now g.met.N.NodeTrait.ordered c.cell_at.ensures.stage c.args.n c.args.n c.args.k _ (c.cell_at.ensures.cell c.args.n)
+    ≡ slice_get (row_list (keys g.N.Compare.value g.N.Compare.order) c.args.n (state_of c.args.self.now)) c.args.k
+told g c = entry_told c.args.self.now g.met.N.Compare.ordered c.cell_at.ensures.stage c.args.n c.args.n c.args.k _ (c.cell_at.ensures.cell c.args.n)
 
 pub returns-in_err-c : goal.returns-in_err-c
 returns-in_err-c g c = c.from_residual.ensures ∙ (rw c.in_err-c.was at (told g (goal.at.returns-in_err-c g c).After-cell_at))
