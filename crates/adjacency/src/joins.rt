@@ -13,7 +13,7 @@ ghost use Rattle.adjacency.specs.Stages.{rows_of, keys_of};
 ghost use Rattle.adjacency.specs.Seats.{vacant, seated_in, lacking_of};
 
 use crate::adjacency::NodesWithRows;
-use keys::nodes::NodeTrait;
+use keys::nodes::{NodeTrait, same};
 use rows::cells::RowHead;
 use table::table::Vacancy;
 
@@ -98,7 +98,7 @@ impl<'a, 'r, N: NodeTrait> NodesWithRows<'a, 'r, N> {
     {
         self.write_link(p, a, b);
         self.note(a, first, (2 * p) as u32);
-        if a == b {
+        if same(&a, &b) {
             return;
         }
         self.note(b, second, (2 * p + 1) as u32);

@@ -10,7 +10,7 @@ use crate::parts::{put_back, taken};
 use adjacency::adjacency::NodesWithRows;
 use adjacency::joins::lacking;
 use keys::kinds::Kind;
-use keys::nodes::NodeTrait;
+use keys::nodes::{Compare, NodeTrait, same};
 use keys::refusals::Refusal;
 use rows::cells::RowHead;
 use rows::memory::Rows;
@@ -20,7 +20,7 @@ use table::table::{Table, Vacancy};
 pub fn edge_key<N: NodeTrait>(kind: Kind, a: N, b: N) -> (N, N)
     ensures { result ≡ edge_key (keys N.value N.order) kind a b }
 {
-    if kind.is_directed() || a <= b {
+    if kind.is_directed() || a.compare(&b).is_le() {
         (a, b)
     } else {
         (b, a)
@@ -48,7 +48,7 @@ fn add_new<N: NodeTrait, E: Copy>(
     }
     let first = adjacency.find(&a);
     let second = adjacency.find(&b);
-    let more = lacking(first, second, a == b);
+    let more = lacking(first, second, same(&a, &b));
     if adjacency.room() - adjacency.len() < more {
         return Err(Refusal::NodesFull);
     }

@@ -10,7 +10,7 @@ use Rattle.adjacency.proofs.reads.head_of.Goals as goal
 
 pub returns-in_err-i : goal.returns-in_err-i
 returns-in_err-i g c =
-    let K = keys g.N.NodeTrait.value g.N.NodeTrait.order in
+    let K = keys g.N.Compare.value g.N.Compare.order in
     let v = K.value c.args.n.now in
     let es = c.args.nodes.now.entries in
     let at : position (λ e. eq K (K.value e.0) v) es ≡ None = ok_found _ _ c.find.ensures c.in_err-i.ensures.value in
@@ -18,7 +18,7 @@ returns-in_err-i g c =
 
 pub value_at-requires : goal.value_at-requires
 value_at-requires g c =
-    let K = keys g.N.NodeTrait.value g.N.NodeTrait.order in
+    let K = keys g.N.Compare.value g.N.Compare.order in
     let v = K.value c.args.n.now in
     let es = c.args.nodes.now.entries in
     let at : position (λ e. eq K (K.value e.0) v) es ≡ Some c.in_ok-i.i = ok_found _ _ c.find.ensures c.in_ok-i.ensures.value in
@@ -26,7 +26,7 @@ value_at-requires g c =
 
 pub returns : goal.returns
 returns g c =
-    let K = keys g.N.NodeTrait.value g.N.NodeTrait.order in
+    let K = keys g.N.Compare.value g.N.Compare.order in
     let v = K.value c.args.n.now in
     let es = c.args.nodes.now.entries in
     let at : position (λ e. eq K (K.value e.0) v) es ≡ Some c.in_ok-i.i = ok_found _ _ c.find.ensures c.in_ok-i.ensures.value in

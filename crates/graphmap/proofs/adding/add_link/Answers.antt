@@ -15,16 +15,16 @@ use Rattle.graphmap.proofs.adding.add_link.Goals as goal
 
 -- the link is at p
 module _ (g : given.Over) (c : goal.After-set_value g) where
-  at : position (is_link (keys g.N.NodeTrait.value g.N.NodeTrait.order) (canon (keys g.N.NodeTrait.value g.N.NodeTrait.order) c.args.kind (g.N.NodeTrait.value c.args.a) (g.N.NodeTrait.value c.args.b))) c.args.links.now.entries ≡ Some c.in-Ok.p
+  at : position (is_link (keys g.N.Compare.value g.N.Compare.order) (canon (keys g.N.Compare.value g.N.Compare.order) c.args.kind (g.N.Compare.value c.args.a) (g.N.Compare.value c.args.b))) c.args.links.now.entries ≡ Some c.in-Ok.p
   at =
-      sym (link_sought (keys g.N.NodeTrait.value g.N.NodeTrait.order) c.args.kind c.args.a c.args.b c.args.links.now.entries _ c.edge_key.ensures)
+      sym (link_sought (keys g.N.Compare.value g.N.Compare.order) c.args.kind c.args.a c.args.b c.args.links.now.entries _ c.edge_key.ensures)
       ∙ found_ok _ _ c.in-Ok.p (sym c.find.ensures ∙ c.in-Ok.is)
 
   place : c.in-Ok.p < length c.args.links.now.entries
   place = found_within _ c.args.links.now.entries c.in-Ok.p at
 
 -- the links fit the rows with another weight
-kept : (g : given.Over) (c : goal.After-set_value g) → Sound g.N.NodeTrait.value g.N.NodeTrait.order (record { kind = c.args.kind; rows = c.args.adjacency.now; links = c.set_value.new.self })
+kept : (g : given.Over) (c : goal.After-set_value g) → Sound g.N.Compare.value g.N.Compare.order (record { kind = c.args.kind; rows = c.args.adjacency.now; links = c.set_value.new.self })
 kept g c =
     let ls = c.args.links.now.entries in
     let p = c.in-Ok.p in
@@ -34,7 +34,7 @@ kept g c =
 
 pub returns-in-Ok : goal.returns-in-Ok
 returns-in-Ok g c =
-    let K = keys g.N.NodeTrait.value g.N.NodeTrait.order in
+    let K = keys g.N.Compare.value g.N.Compare.order in
     let m : Parts g.row.N.Denot g.row.E.Denot = record { kind = c.args.kind; rows = c.args.adjacency.now; links = c.args.links.now } in
     let ls = m.links.entries in
     let p = c.in-Ok.p in
@@ -51,7 +51,7 @@ returns-in-Ok g c =
 
 pub add_new-requires : goal.add_new-requires
 add_new-requires g c =
-    let K = keys g.N.NodeTrait.value g.N.NodeTrait.order in
+    let K = keys g.N.Compare.value g.N.Compare.order in
     let m : Parts g.row.N.Denot g.row.E.Denot = record { kind = c.args.kind; rows = c.args.adjacency.now; links = c.args.links.now } in
     record {
       sound = c.requires.sound;
@@ -62,7 +62,7 @@ add_new-requires g c =
 
 pub returns-in-Err : goal.returns-in-Err
 returns-in-Err g c =
-    let K = keys g.N.NodeTrait.value g.N.NodeTrait.order in
+    let K = keys g.N.Compare.value g.N.Compare.order in
     let m : Parts g.row.N.Denot g.row.E.Denot = record { kind = c.args.kind; rows = c.args.adjacency.now; links = c.args.links.now } in
     let ls = m.links.entries in
     let κ = canon K m.kind (K.value c.args.a) (K.value c.args.b) in

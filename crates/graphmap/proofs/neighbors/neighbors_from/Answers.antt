@@ -8,12 +8,12 @@ use Rattle.graphmap.proofs.neighbors.neighbors_from.Goals as goal
 
 pub returns : goal.returns
 returns g c =
-    let K = keys g.N.NodeTrait.value g.N.NodeTrait.order in
+    let K = keys g.N.Compare.value g.N.Compare.order in
     let a = c.args in
     let mem = a.cells.now in
     let p : Parts _ _ = parts_of a.kind a.nodes.now a.links.now mem in
     let from = c.of.ensures ∙ ap walk_of c.row_of.ensures in
-    let laws = g.met.N.NodeTrait.ordered in
+    let laws = g.met.N.Compare.ordered in
     let s = c.requires.sound in
     record {
       origin = refl;

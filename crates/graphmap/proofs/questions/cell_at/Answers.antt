@@ -7,7 +7,7 @@ use Rattle.graphmap.proofs.questions.cell_at.Goals as goal
 
 pub returns : goal.returns
 returns g c =
-    let K = keys g.N.NodeTrait.value g.N.NodeTrait.order in
+    let K = keys g.N.Compare.value g.N.Compare.order in
     let a = c.args in
     let mem = a.cells.now in
     record {

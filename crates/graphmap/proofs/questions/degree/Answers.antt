@@ -11,4 +11,4 @@ returns g c =
     let turned : c.map.result ≡ option_map (λ h. h.len) c.head_of.result = search (rules, tests) in
     turned
     ∙ ap (option_map (λ h. h.len)) c.head_of.ensures
-    ∙ degree_told (parts_of a.kind a.nodes.now a.links.now a.cells.now) g.met.N.NodeTrait.ordered c.requires.sound.stage a.n
+    ∙ degree_told (parts_of a.kind a.nodes.now a.links.now a.cells.now) g.met.N.Compare.ordered c.requires.sound.stage a.n

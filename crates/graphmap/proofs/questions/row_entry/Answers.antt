@@ -13,10 +13,10 @@ use Rattle.graphmap.proofs.questions.row_entry.Goals as goal
 use Rattle.graphmap.proofs.questions.row_entry.Goals.{After-cell_at}
 
 told : (g : given.Over) (c : After-cell_at g) → option_map (entry c.args.n (cell_keys c.args.cells.now)) c.cell_at.result
-    ≡ slice_get (row_list (keys g.N.NodeTrait.value g.N.NodeTrait.order) c.args.n (state_of (parts_of c.args.kind c.args.nodes.now c.args.links.now c.args.cells.now))) c.args.k
+    ≡ slice_get (row_list (keys g.N.Compare.value g.N.Compare.order) c.args.n (state_of (parts_of c.args.kind c.args.nodes.now c.args.links.now c.args.cells.now))) c.args.k
 told g c =
     let a = c.args in
-    entry_told (parts_of a.kind a.nodes.now a.links.now a.cells.now) g.met.N.NodeTrait.ordered c.requires.sound.stage a.n a.n a.k _ (c.cell_at.ensures.cell a.n)
+    entry_told (parts_of a.kind a.nodes.now a.links.now a.cells.now) g.met.N.Compare.ordered c.requires.sound.stage a.n a.n a.k _ (c.cell_at.ensures.cell a.n)
 
 pub returns-in_err-c : goal.returns-in_err-c
 returns-in_err-c g c = c.from_residual.ensures ∙ (rw c.in_err-c.was at (told g (goal.at.returns-in_err-c g c).After-cell_at))

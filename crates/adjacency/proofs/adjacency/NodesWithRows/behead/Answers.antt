@@ -15,13 +15,13 @@ pop_first-first-requires g c =
     record { linked = head_linked o; some = head_some o c.requires.some }
 
 beheaded : (g : given.Over) (c : goal.After-set_value g)
-    → Edited g.N.NodeTrait.value g.N.NodeTrait.order c.args.self.now (record { nodes = c.set_value.new.self; cells = c.pop_first-first.new.self }) c.args.i
+    → Edited g.N.Compare.value g.N.Compare.order c.args.self.now (record { nodes = c.set_value.new.self; cells = c.pop_first-first.new.self }) c.args.i
     (λ _. listed c.pop_first-first.new.self c.pop_first-first.new.row)
 beheaded g c =
     let o = opened c.self.view_is c.self.invariant c.requires.place c.value_at-row.ensures in
     let a = c.pop_first-first.ensures in
     edited o _ c.set_value.ensures.done c.set_value.ensures.room a.linked a.kept (off_here o) _ (λ _. refl)
-    (λ d. gained_rest (keys g.N.NodeTrait.value g.N.NodeTrait.order) d (keys_of c.args.self.now) (rows_of c.args.self.now) c.args.i (place_row o) c.pop_first-first.result _ (row_was o d ∙ a.rest))
+    (λ d. gained_rest (keys g.N.Compare.value g.N.Compare.order) d (keys_of c.args.self.now) (rows_of c.args.self.now) c.args.i (place_row o) c.pop_first-first.result _ (row_was o d ∙ a.rest))
 
 pub invariant_of-self : goal.invariant_of-self
 invariant_of-self g c = (beheaded g c).stage

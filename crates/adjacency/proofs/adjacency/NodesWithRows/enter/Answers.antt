@@ -19,7 +19,7 @@ append-requires g c =
     }
 
 entered : (g : given.Over) (c : goal.After-set_value g)
-    → Edited g.N.NodeTrait.value g.N.NodeTrait.order c.args.self.now (record { nodes = c.set_value.new.self; cells = c.append.new.self }) c.args.i
+    → Edited g.N.Compare.value g.N.Compare.order c.args.self.now (record { nodes = c.set_value.new.self; cells = c.append.new.self }) c.args.i
     (λ d. row_at (rows_of c.args.self.now) c.args.i d ++ c.args.c ∷ [])
 entered g c =
     let o = opened c.self.view_is c.self.invariant c.requires.place c.value_at-row.ensures in
@@ -27,7 +27,7 @@ entered g c =
     let a = c.append.ensures in
     edited o _ c.set_value.ensures.done c.set_value.ensures.room a.linked a.kept (off_new o c.args.c p.fresh) _
     (λ d. a.list ∙ ap (λ xs. xs ++ c.args.c ∷ []) (sym (row_was o d)))
-    (λ d. gained_push (keys g.N.NodeTrait.value g.N.NodeTrait.order) d (keys_of c.args.self.now) (rows_of c.args.self.now) c.args.i (place_row o) c.args.c p.fresh (p.own d))
+    (λ d. gained_push (keys g.N.Compare.value g.N.Compare.order) d (keys_of c.args.self.now) (rows_of c.args.self.now) c.args.i (place_row o) c.args.c p.fresh (p.own d))
 
 pub invariant_of-self : goal.invariant_of-self
 invariant_of-self g c = (entered g c).stage

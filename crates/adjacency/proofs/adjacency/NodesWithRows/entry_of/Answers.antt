@@ -20,7 +20,7 @@ search-requires g c = record { linked = head_linked (opened c.self.view_is c.sel
 
 pub returns-then-i-j : goal.returns-then-i-j
 returns-then-i-j g c d =
-    let K = keys g.N.NodeTrait.value g.N.NodeTrait.order in
+    let K = keys g.N.Compare.value g.N.Compare.order in
     let test : _ → ℕ → _ = λ ks x. hits K c.args.kind (K.value c.args.b) Outgoing (Rattle.std.proofs.Common.get_or ks x d, side x) in
     inl (c.search.ensures d ∙ (λ i. found (test (keys_of (c.self.view_is i))) (sym (row_was (opened c.self.view_is c.self.invariant c.requires.from c.value_at-from.ensures) d) i)))
 
@@ -29,7 +29,7 @@ search-requires-2 g c = record { linked = head_linked (opened c.self.view_is c.s
 
 pub returns : goal.returns
 returns g c d =
-    let K = keys g.N.NodeTrait.value g.N.NodeTrait.order in
+    let K = keys g.N.Compare.value g.N.Compare.order in
     let test : _ → ℕ → _ = λ ks x. hits K c.args.kind (K.value c.args.a) Incoming (Rattle.std.proofs.Common.get_or ks x d, side x) in
     let turned : c.map.result ≡ option_map twin c.search-2.result = search (rules, tests) in
     inr (

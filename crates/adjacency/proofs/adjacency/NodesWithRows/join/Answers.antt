@@ -1,5 +1,4 @@
 use Rattle.std.proofs.Common.{◌≡◌, ℕ, ◌+◌, ◌*◌, ◌==◌, List, sym, ap, ◌∙◌, arith}
-use Rattle.keys.specs.Laws.{equal_alike}
 use Rattle.model.specs.Keys.{keys}
 use Rattle.model.specs.Lists.{bit}
 use Rattle.model.specs.Maps.{joined}
@@ -14,19 +13,19 @@ first_noted : {N : Type 0} {ns₀ ns : List (N × List ℕ)} (ns' : List (N × L
 first_noted ns' c same noted x = noted x ∙ ap (λ z. standing x z + bit (x == c)) same
 
 pub write_link-requires-clause-off : goal.write_link-requires-clause-off
-write_link-requires-clause-off g c = next_off (keys g.N.NodeTrait.value g.N.NodeTrait.order) c.args.a (keys_of c.args.self.now) c.args.p (rows_of c.args.self.now) (c.requires.whole c.args.a)
+write_link-requires-clause-off g c = next_off (keys g.N.Compare.value g.N.Compare.order) c.args.a (keys_of c.args.self.now) c.args.p (rows_of c.args.self.now) (c.requires.whole c.args.a)
 
 pub note-requires-clause-fresh : goal.note-requires-clause-fresh
 note-requires-clause-fresh g c =
     ap (standing (2 * c.args.p)) c.write_link.ensures.rows
-    ∙ next_off (keys g.N.NodeTrait.value g.N.NodeTrait.order) c.args.a (keys_of c.args.self.now) c.args.p (rows_of c.args.self.now) (c.requires.whole c.args.a) (2 * c.args.p) (omega arith)
+    ∙ next_off (keys g.N.Compare.value g.N.Compare.order) c.args.a (keys_of c.args.self.now) c.args.p (rows_of c.args.self.now) (c.requires.whole c.args.a) (2 * c.args.p) (omega arith)
 
-pub returns-then-eq : goal.returns-then-eq
-returns-then-eq g c =
-    let K = keys g.N.NodeTrait.value g.N.NodeTrait.order in
+pub returns-then-same : goal.returns-then-same
+returns-then-same g c =
+    let K = keys g.N.Compare.value g.N.Compare.order in
     let w = c.write_link.ensures in
     let n = c.note.ensures in
-    let same = sym (c.eq.ensures ∙ equal_alike g.N.NodeTrait.value g.N.NodeTrait.order g.met.N.NodeTrait.compares g.met.N.Ord.matches_eq _ _) ∙ c.if-eq.true in
+    let same = sym c.same.ensures ∙ c.if-same.true in
     record {
       whole = λ d.
           whole_one K (keys_of c.args.self.now) c.args.p c.args.a c.args.b c.requires.within (n.keys ∙ w.keys) same d (rows_of c.args.self.now) (c.requires.whole d)
@@ -41,7 +40,7 @@ returns-then-eq g c =
 
 pub note-requires-2-clause-fresh : goal.note-requires-2-clause-fresh
 note-requires-2-clause-fresh g c =
-    let K = keys g.N.NodeTrait.value g.N.NodeTrait.order in
+    let K = keys g.N.Compare.value g.N.Compare.order in
     let x = 2 * c.args.p + 1 in
     let s = first_noted _ _ c.write_link.ensures.rows c.note.ensures.standing x in
     let u = bit_other x (2 * c.args.p) (λ e. omega arith) in
@@ -50,11 +49,11 @@ note-requires-2-clause-fresh g c =
 
 pub returns : goal.returns
 returns g c =
-    let K = keys g.N.NodeTrait.value g.N.NodeTrait.order in
+    let K = keys g.N.Compare.value g.N.Compare.order in
     let w = c.write_link.ensures in
     let n = c.note.ensures in
     let m = c.note-2.ensures in
-    let same = sym (c.eq.ensures ∙ equal_alike g.N.NodeTrait.value g.N.NodeTrait.order g.met.N.NodeTrait.compares g.met.N.Ord.matches_eq _ _) ∙ c.if-eq.false in
+    let same = sym c.same.ensures ∙ c.if-same.false in
     record {
       whole = λ d.
           whole_two K (keys_of c.args.self.now) c.args.p c.args.a c.args.b c.requires.within (m.keys ∙ n.keys ∙ w.keys) same d (rows_of c.args.self.now) (c.requires.whole d)

@@ -17,7 +17,7 @@ swap_remove-requires g c =
     record { linked = head_linked o; held = head_held o c.args.c c.requires.held }
 
 left : (g : given.Over) (c : goal.After-set_value g) (k : ℕ) → k < length (listed c.self.inside.rows c.value_at-row.result) → nth (listed c.self.inside.rows c.value_at-row.result) k ≡ c.args.c
-    → Edited g.N.NodeTrait.value g.N.NodeTrait.order c.args.self.now (record { nodes = c.set_value.new.self; cells = c.swap_remove.new.self }) c.args.i
+    → Edited g.N.Compare.value g.N.Compare.order c.args.self.now (record { nodes = c.set_value.new.self; cells = c.swap_remove.new.self }) c.args.i
     (λ d. swap_removed (row_at (rows_of c.args.self.now) c.args.i d) k)
 left g c k lk at =
     let o = opened c.self.view_is c.self.invariant c.requires.place c.value_at-row.ensures in
@@ -26,7 +26,7 @@ left g c k lk at =
     (λ d. a.list k (omega (arith, lk, listed_length c.self.inside.rows c.value_at-row.result)) at ∙ ap (λ xs. swap_removed xs k) (sym (row_was o d)))
     (λ d.
     let w = row_was o d in
-    gained_less (keys g.N.NodeTrait.value g.N.NodeTrait.order) d (keys_of c.args.self.now) (rows_of c.args.self.now) c.args.i (place_row o) k c.args.c (subst (λ xs. k < length xs) (sym w) lk) (ap (λ xs. nth xs k) w ∙ at))
+    gained_less (keys g.N.Compare.value g.N.Compare.order) d (keys_of c.args.self.now) (rows_of c.args.self.now) c.args.i (place_row o) k c.args.c (subst (λ xs. k < length xs) (sym w) lk) (ap (λ xs. nth xs k) w ∙ at))
 
 pub invariant_of-self : goal.invariant_of-self
 invariant_of-self g c =

@@ -20,7 +20,7 @@ use Rattle.adjacency.proofs.adjacency.NodesWithRows.note.Goals as goal
 
 pub enter-requires : goal.enter-requires
 enter-requires g c =
-    let K = keys g.N.NodeTrait.value g.N.NodeTrait.order in
+    let K = keys g.N.Compare.value g.N.Compare.order in
     let s = c.seat-i.ensures in
     let r₁ : NodeRows g.row.N.Denot = c.seat-i.new.self in
     let keys_same : keys_of r₁ ≡ keys_of c.args.self.now = ap cell_keys s.cells in
@@ -31,12 +31,12 @@ enter-requires g c =
       own = λ d.
           ap (λ ks. named K d ks (twin c.args.c)) keys_same
           ∙ c.requires.own d
-          ∙ owner_at K g.met.N.NodeTrait.ordered r₁.cells r₁.nodes.entries _ c.seat-i.result s.there d;
+          ∙ owner_at K g.met.N.Compare.ordered r₁.cells r₁.nodes.entries _ c.seat-i.result s.there d;
     }
 
 pub returns : goal.returns
 returns g c =
-    let K = keys g.N.NodeTrait.value g.N.NodeTrait.order in
+    let K = keys g.N.Compare.value g.N.Compare.order in
     let r : NodeRows g.row.N.Denot = c.args.self.now in
     let r₁ : NodeRows g.row.N.Denot = c.seat-i.new.self in
     let n = c.args.n in
@@ -72,6 +72,6 @@ returns g c =
           ∙ position_put K (K.value m) n (rows_of r₁) i (row_at (rows_of r₁) i n ++ x ∷ [])
           ∙ position_map (λ y. eq K (K.value y.0) (K.value m)) _ r₁.nodes.entries
           ∙ ap (position (λ e. eq K (K.value e.0) (K.value m))) s.seated
-          ∙ seated_other K n es g.met.N.NodeTrait.ordered (K.value m) ne in
+          ∙ seated_other K n es g.met.N.Compare.ordered (K.value m) ne in
           λ j. found (p j) (vacancy ((a.room ∙ s.room) j) (g.N.NodeTrait.hashed m));
     }

@@ -22,7 +22,7 @@ replace-requires g c =
     }
 
 renamed : (g : given.Over) (c : goal.After-set_value g) (k : ℕ) → k < length (listed c.self.inside.rows c.value_at-row.result) → nth (listed c.self.inside.rows c.value_at-row.result) k ≡ c.args.old
-    → Edited g.N.NodeTrait.value g.N.NodeTrait.order c.args.self.now (record { nodes = c.set_value.new.self; cells = c.replace.new.self }) c.args.i
+    → Edited g.N.Compare.value g.N.Compare.order c.args.self.now (record { nodes = c.set_value.new.self; cells = c.replace.new.self }) c.args.i
     (λ d. set (row_at (rows_of c.args.self.now) c.args.i d) k c.args.new)
 renamed g c k lk at =
     let o = opened c.self.view_is c.self.invariant c.requires.place c.value_at-row.ensures in
@@ -32,7 +32,7 @@ renamed g c k lk at =
     (λ d. a.list k (omega (arith, lk, listed_length c.self.inside.rows c.value_at-row.result)) at ∙ ap (λ xs. set xs k c.args.new) (sym (row_was o d)))
     (λ d.
     let w = row_was o d in
-    gained_set (keys g.N.NodeTrait.value g.N.NodeTrait.order) d (keys_of c.args.self.now) (rows_of c.args.self.now) c.args.i (place_row o) k c.args.old c.args.new (subst (λ xs. k < length xs) (sym w) lk) (ap (λ xs. nth xs k) w ∙ at) p.fresh (p.own d))
+    gained_set (keys g.N.Compare.value g.N.Compare.order) d (keys_of c.args.self.now) (rows_of c.args.self.now) c.args.i (place_row o) k c.args.old c.args.new (subst (λ xs. k < length xs) (sym w) lk) (ap (λ xs. nth xs k) w ∙ at) p.fresh (p.own d))
 
 pub invariant_of-self : goal.invariant_of-self
 invariant_of-self g c =

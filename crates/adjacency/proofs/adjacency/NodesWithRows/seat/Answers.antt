@@ -14,9 +14,9 @@ use Rattle.adjacency.proofs.adjacency.NodesWithRows.seat.Goals as goal
 
 -- an absent node is put at the end
 module _ (g : given.Over) (c : goal.After-append g) where
-  absent : sought g.N.NodeTrait.order g.N.NodeTrait.value g.N.NodeTrait.hashed c.self.inside.nodes.room c.self.inside.nodes.entries c.args.n ≡ Err c.in-Err.w
+  absent : sought g.N.Compare.order g.N.Compare.value g.N.NodeTrait.hashed c.self.inside.nodes.room c.self.inside.nodes.entries c.args.n ≡ Err c.in-Err.w
   absent =
-      ap (λ z. sought g.N.NodeTrait.order g.N.NodeTrait.value g.N.NodeTrait.hashed z.nodes.room z.nodes.entries c.args.n) c.self.view_is ∙ sym c.requires.found ∙ c.in-Err.is
+      ap (λ z. sought g.N.Compare.order g.N.Compare.value g.N.NodeTrait.hashed z.nodes.room z.nodes.entries c.args.n) c.self.view_is ∙ sym c.requires.found ∙ c.in-Err.is
 
   free : length c.self.inside.nodes.entries < c.self.inside.nodes.room
   free =
@@ -27,26 +27,26 @@ module _ (g : given.Over) (c : goal.After-append g) where
       ap (λ z. z.1) (c.append.ensures.done ∙ cond-true _ _ _ (lt-ltb (length c.self.inside.nodes.entries) c.self.inside.nodes.room free))
       ∙ ap (λ h. c.self.inside.nodes.entries ++ (c.args.n, h) ∷ []) c.empty.ensures
 
-  seated : c.append.new.self.entries ≡ seated_in (keys g.N.NodeTrait.value g.N.NodeTrait.order) c.args.n c.self.inside.nodes.entries
+  seated : c.append.new.self.entries ≡ seated_in (keys g.N.Compare.value g.N.Compare.order) c.args.n c.self.inside.nodes.entries
   seated = added ∙ sym (ap (λ o. seat_by o c.args.n c.self.inside.nodes.entries) (found_vacant _ _ _ absent))
 
 pub invariant_of-self : goal.invariant_of-self
 invariant_of-self g c =
     let es = c.self.inside.nodes.entries in
     let n = c.args.n in
-    let away = sought_vacant g.N.NodeTrait.order g.met.N.NodeTrait.ordered g.N.NodeTrait.value g.N.NodeTrait.hashed c.self.inside.nodes.room es n c.in-Err.w (absent g c) in
+    let away = sought_vacant g.N.Compare.order g.met.N.Compare.ordered g.N.Compare.value g.N.NodeTrait.hashed c.self.inside.nodes.room es n c.in-Err.w (absent g c) in
     seated_stage n c.append.new.self c.self.invariant (seated g c)
-    (rw (added g c) (apart_push g.N.NodeTrait.value es n bare c.self.invariant.apart away.0))
+    (rw (added g c) (apart_push g.N.Compare.value es n bare c.self.invariant.apart away.0))
     (omega (arith, free g c, ap length (added g c), length_push es (n, bare), c.append.ensures.room))
 
 pub returns-in-Err : goal.returns-in-Err
 returns-in-Err g c =
     let is = c.self.view_is in
-    let K = keys g.N.NodeTrait.value g.N.NodeTrait.order in
+    let K = keys g.N.Compare.value g.N.Compare.order in
     let n = c.args.n in
     record {
       there = ap (position (λ e. eq K (K.value e.0) (K.value n))) (seated g c)
-          ∙ seated_place K n c.self.inside.nodes.entries g.met.N.NodeTrait.ordered (found_vacant _ _ _ (absent g c))
+          ∙ seated_place K n c.self.inside.nodes.entries g.met.N.Compare.ordered (found_vacant _ _ _ (absent g c))
           ∙ sym (ap Some c.len-i.ensures);
       seated = seated g c ∙ ap (λ z. seated_in K n z.nodes.entries) is;
       room = c.append.ensures.room ∙ ap (λ z. z.nodes.room) is;

@@ -1,5 +1,4 @@
 use Rattle.std.proofs.Common.{◌+◌, ◌*◌, sym, ap, ◌∙◌, arith}
-use Rattle.keys.specs.Laws.{equal_alike}
 use Rattle.model.specs.Keys.{keys}
 use Rattle.halfedges.specs.Cells.{standing}
 use Rattle.halfedges.proofs.Moves.{whole_last}
@@ -9,7 +8,7 @@ use Rattle.adjacency.proofs.adjacency.NodesWithRows.settle.Goals as goal
 
 pub returns-then-g-l-clause-whole : goal.returns-then-g-l-clause-whole
 returns-then-g-l-clause-whole g c d =
-    whole_last (keys g.N.NodeTrait.value g.N.NodeTrait.order) d (keys_of c.args.self.now) c.args.g c.args.l (rows_of c.args.self.now) (c.requires.off d) c.if-g-l.true
+    whole_last (keys g.N.Compare.value g.N.Compare.order) d (keys_of c.args.self.now) c.args.g c.args.l (rows_of c.args.self.now) (c.requires.off d) c.if-g-l.true
 
 pub write_link-requires-clause-off : goal.write_link-requires-clause-off
 write_link-requires-clause-off g c = (c.requires.off c.key-first.result).out
@@ -22,18 +21,18 @@ shift-requires-clause-held g c =
 pub shift-requires-clause-fresh : goal.shift-requires-clause-fresh
 shift-requires-clause-fresh g c = ap (standing (2 * c.args.g)) c.write_link.ensures.rows ∙ (c.requires.off c.key-first.result).out (2 * c.args.g) (omega arith)
 
-pub returns-then-eq-clause-whole : goal.returns-then-eq-clause-whole
-returns-then-eq-clause-whole g c =
+pub returns-then-same-clause-whole : goal.returns-then-same-clause-whole
+returns-then-same-clause-whole g c =
     let m = last c.self.view_is c.requires.off c.requires.within c.requires.order c.if-g-l.false c.key-first.ensures c.key-second.ensures in
     let w = c.write_link.ensures in
-    let same = sym (c.eq.ensures ∙ equal_alike g.N.NodeTrait.value g.N.NodeTrait.order g.met.N.NodeTrait.compares g.met.N.Ord.matches_eq _ _) ∙ c.if-eq.true in
+    let same = sym c.same.ensures ∙ c.if-same.true in
     settled_one m (c.shift.ensures.keys ∙ w.keys) (λ x. standing x (rows_of c.shift.new.self))
     (shifted _ _ _ w.rows c.shift.ensures.standing) same
 
 pub shift-requires-2-clause-held : goal.shift-requires-2-clause-held
 shift-requires-2-clause-held g c =
     let m = last c.self.view_is c.requires.off c.requires.within c.requires.order c.if-g-l.false c.key-first.ensures c.key-second.ensures in
-    let same = sym (c.eq.ensures ∙ equal_alike g.N.NodeTrait.value g.N.NodeTrait.order g.met.N.NodeTrait.compares g.met.N.Ord.matches_eq _ _) ∙ c.if-eq.false in
+    let same = sym c.same.ensures ∙ c.if-same.false in
     shifted_other _ _ _ c.write_link.ensures.rows c.shift.ensures.standing (2 * c.args.l + 1) (λ e. omega arith) (λ e. omega (arith, c.if-g-l.false, c.requires.order))
     ∙ last_second m same
 
@@ -47,7 +46,7 @@ pub returns-clause-whole : goal.returns-clause-whole
 returns-clause-whole g c =
     let m = last c.self.view_is c.requires.off c.requires.within c.requires.order c.if-g-l.false c.key-first.ensures c.key-second.ensures in
     let w = c.write_link.ensures in
-    let same = sym (c.eq.ensures ∙ equal_alike g.N.NodeTrait.value g.N.NodeTrait.order g.met.N.NodeTrait.compares g.met.N.Ord.matches_eq _ _) ∙ c.if-eq.false in
+    let same = sym c.same.ensures ∙ c.if-same.false in
     settled_two m (c.shift-2.ensures.keys ∙ c.shift.ensures.keys ∙ w.keys) (λ x. standing x (rows_of c.shift.new.self))
     (shifted _ _ _ w.rows c.shift.ensures.standing) same
     (λ x. standing x (rows_of c.shift-2.new.self)) c.shift-2.ensures.standing

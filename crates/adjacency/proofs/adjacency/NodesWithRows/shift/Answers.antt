@@ -20,14 +20,14 @@ use Rattle.adjacency.proofs.adjacency.NodesWithRows.shift.Goals as goal
 
 -- the row that has the cell is at i
 module _ (g : given.Over) (c : goal.After-rename-arg-1 g) where
-  at : position (λ e. eq (keys g.N.NodeTrait.value g.N.NodeTrait.order) (g.N.NodeTrait.value e.0) (g.N.NodeTrait.value c.args.n)) c.args.self.now.nodes.entries ≡ Some c.in-Ok.i
+  at : position (λ e. eq (keys g.N.Compare.value g.N.Compare.order) (g.N.Compare.value e.0) (g.N.Compare.value c.args.n)) c.args.self.now.nodes.entries ≡ Some c.in-Ok.i
   at = found_ok _ _ c.in-Ok.i (sym c.find.ensures.found ∙ c.in-Ok.is)
 
   place : c.in-Ok.i < length c.args.self.now.nodes.entries
   place = found_within _ c.args.self.now.nodes.entries c.in-Ok.i at
 
   held : (d : g.row.N.Denot) → 1 ≤ count c.args.old (row_at (rows_of c.args.self.now) c.in-Ok.i d)
-  held d = in_its_row c.find.ensures.stage g.met.N.NodeTrait.ordered d (g.N.NodeTrait.value c.args.n) c.args.old (omega (arith, c.requires.held)) (c.requires.own d) c.in-Ok.i at
+  held d = in_its_row c.find.ensures.stage g.met.N.Compare.ordered d (g.N.Compare.value c.args.n) c.args.old (omega (arith, c.requires.held)) (c.requires.own d) c.in-Ok.i at
 
 pub rename-requires : goal.rename-requires
 rename-requires g c = record {
@@ -37,7 +37,7 @@ rename-requires g c = record {
   held = held g c;
   own = λ d.
       c.requires.owner d
-      ∙ owner_at (keys g.N.NodeTrait.value g.N.NodeTrait.order) g.met.N.NodeTrait.ordered c.args.self.now.cells c.args.self.now.nodes.entries _ c.in-Ok.i (at g c) d;
+      ∙ owner_at (keys g.N.Compare.value g.N.Compare.order) g.met.N.Compare.ordered c.args.self.now.cells c.args.self.now.nodes.entries _ c.in-Ok.i (at g c) d;
 }
 
 pub returns-in-Ok : goal.returns-in-Ok
@@ -69,4 +69,4 @@ returns-in-Ok g c =
 pub returns-in_default : goal.returns-in_default
 returns-in_default g c =
     let n = c.args.n in
-    absurd (never_absent c.find.ensures.stage g.met.N.NodeTrait.ordered n (g.N.NodeTrait.value n) c.args.old (omega (arith, c.requires.held)) (c.requires.own n) (found_vacant _ _ _ (sym c.find.ensures.found ∙ c.in_default.is)))
+    absurd (never_absent c.find.ensures.stage g.met.N.Compare.ordered n (g.N.Compare.value n) c.args.old (omega (arith, c.requires.held)) (c.requires.own n) (found_vacant _ _ _ (sym c.find.ensures.found ∙ c.in_default.is)))

@@ -7,7 +7,7 @@ use Rattle.adjacency.proofs.adjacency.NodesWithRows.write_link.Given as given
 use Rattle.adjacency.proofs.adjacency.NodesWithRows.write_link.Goals as goal
 
 still : (g : given.Over) (c : goal.After-set_key-2 g)
-    → Still g.N.NodeTrait.value g.N.NodeTrait.order (record { nodes = c.self.inside.nodes; cells = c.self.inside.rows }) (record { nodes = c.self.inside.nodes; cells = c.set_key-2.new.self }) c.args.p c.args.a c.args.b
+    → Still g.N.Compare.value g.N.Compare.order (record { nodes = c.self.inside.nodes; cells = c.self.inside.rows }) (record { nodes = c.self.inside.nodes; cells = c.set_key-2.new.self }) c.args.p c.args.a c.args.b
 still g c =
     let first = c.set_key.ensures in
     let second = c.set_key-2.ensures in
