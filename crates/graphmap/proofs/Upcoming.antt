@@ -1,5 +1,5 @@
 -- The cells that are to come of a walk, over any memory, and of a walk from the start of a row.
-use Rattle.std.proofs.Common.{◌≡◌, ℕ, zero, suc, ◌<◌, ◌≤◌, true, ltb, List, [], ◌∷◌, map, length, get_or, Some, Option, sym, refl, ap, ◌∙◌, subst, ⊎_elim, arith}
+use Rattle.std.proofs.Common.{◌≡◌, ℕ, zero, suc, ◌<◌, ◌≤◌, true, ltb, List, [], ◌∷◌, map, length, get_or, Some, None, Option, sym, refl, ap, ◌∙◌, subst, ⊎_elim, arith}
 use Rattle.std.specs.List.{slice_get}
 use Rattle.std.proofs.lemmas.Simd.{map-map}
 use Rattle.std.proofs.lemmas.Bool.{cases_lt, cases_eq, lt-ltb, le-ltb, cond-true, cond-false}
@@ -36,7 +36,16 @@ first_turned {X} f (v ∷ vs) ys r x y e q p =
     let s : x ≡ v = cc in
     λ i. ((p ∙ ap f s) i, (e i).1)
 
-first_count : (xs ys : List ℕ) (r : Option ℕ) (c : ℕ) → ◌≡◌ {A = Option ℕ × List ℕ} (r, ys) (first_of xs) → r ≡ Some c → 1 ≤ count c xs
+-- the same at the end
+pub first_ended : {X Y : Type 0} (f : X → Option Y) (xs ys : List X) (r : Option X) → ◌≡◌ {A = Option X × List X} (r, ys) (first_of xs) → r ≡ None
+    → ◌≡◌ {A = Option Y × List X} (None, ys) (first_by f xs)
+first_ended f [] ys r e q = λ i. (None, (e i).1)
+first_ended f (y ∷ zs) ys r e q =
+    let p = ap (λ z. z.0) e in
+    let z : ◌≡◌ {A = ℕ} 0 1 = cc in
+    absurd (omega arith)
+
+pub first_count : (xs ys : List ℕ) (r : Option ℕ) (c : ℕ) → ◌≡◌ {A = Option ℕ × List ℕ} (r, ys) (first_of xs) → r ≡ Some c → 1 ≤ count c xs
 first_count [] ys r c e q =
     let p = ap (λ (z : Option ℕ × List ℕ). z.0) e in
     let z : ◌≡◌ {A = ℕ} 0 1 = cc in
