@@ -61,23 +61,12 @@ impl<'a, N: Copy> Rows<'a, N> {
         self.cells.len() / 2
     }
 
-    // The cell `c`.
-    pub(crate) fn cell(&self, c: u32) -> Cell<N>
-        requires { c < length self.now }
-        ensures cell { (d : _) → result ≡ slice_index_or self.now c d }
-        ensures small { length self.now ≤ none }
-    {
-        // Bound to a name first, as the proof learns the slice's size where the field is read.
-        let cells: &[Cell<N>] = self.cells;
-        cells[c as usize]
-    }
-
     /// The key of the cell `c`.
     pub fn key(&self, c: u32) -> N
         requires { c < length self.now }
         ensures { (d : N) → result ≡ slice_index_or (cell_keys self.now) c d }
     {
-        self.cell(c).key
+        cell(self.cells, c).key
     }
 
     /// Writes the key of the cell `c`. The rows stay as they are.
@@ -99,4 +88,12 @@ pub fn set_key<N: Copy>(cells: &mut [Cell<N>], c: usize, k: N)
     ensures prevs { prevs cells.new ≡ prevs cells.old }
 {
     cells[c].key = k;
+}
+
+// The cell `c` of any memory.
+pub(crate) fn cell<N: Copy>(cells: &[Cell<N>], c: u32) -> Cell<N>
+    requires { c < length cells.now }
+    ensures { (d : _) → result ≡ slice_index_or cells.now c d }
+{
+    cells[c as usize]
 }
