@@ -8,10 +8,10 @@ use std::marker::Model;
 /// The most links that a map has: as many as a table has entries.
 pub const MOST_LINKS: usize = 65_535;
 
-/// The memory of the rows, two cells for each link.
+/// The memory of the rows, two cells for each link. It may be read, written, lent on and taken back.
 #[derive(Drop)]
 pub struct Rows<'a, N> {
-    pub(crate) cells: &'a mut [Cell<N>],
+    pub cells: &'a mut [Cell<N>],
 }
 
 // Clauses see the list of the cells.
@@ -58,7 +58,7 @@ impl<'a, N: Copy> Rows<'a, N> {
         ensures links { result ≡ length self.now / 2 }
         ensures small { length self.now ≤ none }
     {
-        self.cells.len() / 2
+        room(self.cells)
     }
 
     /// The key of the cell `c`.
@@ -78,6 +78,13 @@ impl<'a, N: Copy> Rows<'a, N> {
     {
         set_key(self.cells, c, k);
     }
+}
+
+/// How many links any memory has cells for.
+pub fn room<N>(cells: &[Cell<N>]) -> usize
+    ensures { result ≡ length cells.now / 2 }
+{
+    cells.len() / 2
 }
 
 /// Writes the key of the cell `c` of any memory. The links stay as they are.
