@@ -1,7 +1,7 @@
-use Rattle.std.proofs.Common.{◌≤◌, ◌-◌, ◌∙◌, length, arith}
+use Rattle.std.proofs.Common.{◌≤◌, ◌-◌, ◌∙◌, length, rules, arith}
 use Rattle.rows.specs.Rings.{none}
 use Rattle.rows.proofs.Rings.{before_within}
-use Rattle.rows.proofs.Lists.{same_long, row_linked, listed_is, last_nth, last_within, last_prev}
+use Rattle.rows.proofs.Lists.{same_long, row_linked, listed_is, last_as, last_nth, last_within, last_prev}
 use Rattle.rows.proofs.Edits.{pop_last_row, pop_last_kept, pop_last_apart}
 use Rattle.rows.proofs.row.pop_last.Goals as goal
 
@@ -27,7 +27,7 @@ returns g c =
     let list = listed_is row after in
     let popped = last_nth l c.requires.some in
     record {
-      linked = row_linked row after;
+      linked = row_linked (last_as row (search rules)) after;
       list = list;
       popped = popped;
       apart = pop_last_apart l small c.requires.some list popped;
