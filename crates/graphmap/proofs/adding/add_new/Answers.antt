@@ -22,7 +22,7 @@ returns-then-room-len g c =
     let a = c.args.a in
     let b = c.args.b in
     let ns = noded (keys_of m.rows) (rows_of m.rows) in
-    let free = lt-leb (min m.links.room (length (keys_of m.rows) / 2)) (length m.links.entries) (omega (arith, c.len-p.ensures, c.capacity.ensures, c.link_room.ensures)) in
+    let free = lt-leb (min m.links.room (length (keys_of m.rows) / 2)) (length m.links.entries) (omega (arith, c.len-p.ensures, c.capacity.ensures.room, c.link_room.ensures)) in
     let more = c.lacking-more.ensures
     ∙ lacking_wanted K a b _ _ m.rows c.find-first.ensures.found c.find-second.ensures.found c.same.ensures in
     let full = lt-ltb m.rows.nodes.room (length ns + wanted K a b ns) (omega (arith, c.len.ensures.count, c.room.ensures, length_noded (keys_of m.rows) (rows_of m.rows), rowed_length m.rows.cells m.rows.nodes.entries)) in
@@ -40,7 +40,7 @@ append-requires g c =
 -- there is room for the link, and it is put at the end
 module _ (g : given.Over) (c : goal.After-append g) where
   room : length c.args.links.now.entries < min c.args.links.now.room (length (keys_of c.args.adjacency.now) / 2)
-  room = omega (arith, c.len-p.ensures, c.capacity.ensures, c.link_room.ensures)
+  room = omega (arith, c.len-p.ensures, c.capacity.ensures.room, c.link_room.ensures)
 
   more_links : c.append.new.self.entries ≡ c.args.links.now.entries ++ (edge_key (keys g.N.Compare.value g.N.Compare.order) c.args.kind c.args.a c.args.b, c.args.w) ∷ []
   more_links =

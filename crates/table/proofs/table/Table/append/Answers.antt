@@ -15,14 +15,14 @@ returns-then-len-capacity g c =
     let t = c.args.self.now in
     record {
       done =
-          sym (cond-false (ltb (length t.entries) t.room) _ _ (le-ltb _ _ (omega (arith, length_seen c.self.invariant.index c.self.view_is, c.capacity.ensures))));
+          sym (cond-false (ltb (length t.entries) t.room) _ _ (le-ltb _ _ (omega (arith, length_seen c.self.invariant.index c.self.view_is, c.capacity.ensures.room))));
       room = refl;
     }
 
 pub enter-requires : goal.enter-requires
 enter-requires g c =
     let s = c.self.inside.memory in
-    let room : c.self.inside.len < capacity_of s = omega (arith, c.capacity.ensures, ap (λ z. z.room) c.self.view_is) in
+    let room : c.self.inside.len < capacity_of s = omega (arith, c.capacity.ensures.room, ap (λ z. z.room) c.self.view_is) in
     let v =
     seen_vacant g.K.Compare.order g.met.K.Compare.ordered g.K.Compare.value g.K.NodeTrait.hashed _ _ c.args.k c.args.w c.self.view_is c.requires.absent in
     record {
@@ -39,7 +39,7 @@ invariant_of-self g c =
     let len = c.self.inside.len in
     let v =
     seen_vacant g.K.Compare.order g.met.K.Compare.ordered g.K.Compare.value g.K.NodeTrait.hashed _ _ c.args.k c.args.w c.self.view_is c.requires.absent in
-    let room : len < capacity_of s = omega (arith, c.capacity.ensures, ap (λ z. z.room) c.self.view_is) in
+    let room : len < capacity_of s = omega (arith, c.capacity.ensures.room, ap (λ z. z.room) c.self.view_is) in
     record {
       index = c.enter.ensures.indexed;
       apart =
@@ -53,7 +53,7 @@ returns g c =
     let s' = c.enter.new.self in
     let len = c.self.inside.len in
     let es = take len (pairs s) in
-    let room : len < capacity_of s = omega (arith, c.capacity.ensures, ap (λ z. z.room) c.self.view_is) in
+    let room : len < capacity_of s = omega (arith, c.capacity.ensures.room, ap (λ z. z.room) c.self.view_is) in
     rw (← c.self.view_is)
     (record {
       done =

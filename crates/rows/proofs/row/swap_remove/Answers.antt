@@ -2,19 +2,20 @@ use Rattle.std.proofs.Common.{◌≡◌, suc, ◌-◌, length, arith}
 use Rattle.rows.specs.Links.{listed}
 use Rattle.rows.proofs.Lists.{same_long}
 use Rattle.rows.proofs.Swaps.{left_holds, swapped_other, swapped_last, kept_both}
-use Rattle.rows.proofs.memory.Rows.swap_remove.Goals as goal
+use Rattle.rows.proofs.row.swap_remove.Goals as goal
 
 pub pop_last-last-requires : goal.pop_last-last-requires
-pop_last-last-requires g c = record { linked = c.requires.linked; some = omega (arith, c.requires.linked.long, c.requires.held.1) }
+pop_last-last-requires g c = record { small = c.requires.small; linked = c.requires.linked; some = omega (arith, c.requires.linked.long, c.requires.held.1) }
 
 pub replace-requires : goal.replace-requires
 replace-requires g c =
     let row = c.requires.linked in
     let m = c.args.row.now.len - 1 in
     let p = c.pop_last-last.ensures in
-    let ys = listed c.pop_last-last.new.self c.pop_last-last.new.row in
-    let long : length (listed c.args.self.now c.args.row.now) ≡ suc m = omega (arith, row.long, c.requires.held.1) in
+    let ys = listed c.pop_last-last.new.cells c.pop_last-last.new.row in
+    let long : length (listed c.args.cells.now c.args.row.now) ≡ suc m = omega (arith, row.long, c.requires.held.1) in
     record {
+      small = omega (arith, c.requires.small, same_long (λ c. c.key) _ _ p.kept.keys);
       linked = p.linked;
       within = omega (arith, p.popped, row.ring.within m (omega arith), same_long (λ c. c.key) _ _ p.kept.keys);
       fresh = p.apart;
@@ -28,8 +29,8 @@ returns-then-last-c g c =
     let p = c.pop_last-last.ensures in
     let t = c.pop_last-last.result in
     let r = c.replace.ensures in
-    let ys = listed c.pop_last-last.new.self c.pop_last-last.new.row in
-    let long : length (listed c.args.self.now c.args.row.now) ≡ suc m = omega (arith, row.long, c.requires.held.1) in
+    let ys = listed c.pop_last-last.new.cells c.pop_last-last.new.row in
+    let long : length (listed c.args.cells.now c.args.row.now) ≡ suc m = omega (arith, row.long, c.requires.held.1) in
     record {
       linked = r.linked;
       list = λ i l.
@@ -44,8 +45,8 @@ returns-else-last-c g c =
     let m = c.args.row.now.len - 1 in
     let p = c.pop_last-last.ensures in
     let t = c.pop_last-last.result in
-    let ys = listed c.pop_last-last.new.self c.pop_last-last.new.row in
-    let long : length (listed c.args.self.now c.args.row.now) ≡ suc m = omega (arith, row.long, c.requires.held.1) in
+    let ys = listed c.pop_last-last.new.cells c.pop_last-last.new.row in
+    let long : length (listed c.args.cells.now c.args.row.now) ≡ suc m = omega (arith, row.long, c.requires.held.1) in
     record {
       linked = p.linked;
       list = λ i l. swapped_last _ ys m t long p.list p.popped p.apart c.if-last-c.false i (omega (arith, row.long));
