@@ -1,12 +1,10 @@
 -- A search for a key down the chain of its bucket.
-use Rattle.std.proofs.Common.{◌≡◌, ℕ, ◌<◌, ◌≤◌, true, false, List, [], ◌∷◌, map, get_or, take, Some, None, Ok, Err, Option, ok_or, Ordering, sym, refl, ap, subst, ◌∙◌, inl, inr, arith}
-use Rattle.std.proofs.lemmas.List.{length-map, get_or-map}
-use Rattle.std.proofs.lemmas.Bool.{cases_lt, cases_Bool, both_ways}
+use Rattle.std.proofs.Common.{◌≡◌, ℕ, ◌<◌, ◌≤◌, true, false, List, [], ◌∷◌, get_or, take, Some, None, Ok, Err, Option, ok_or, Ordering, sym, refl, ap, subst, ◌∙◌, inl, inr, arith}
+use Rattle.std.proofs.lemmas.Bool.{cases_Bool, both_ways}
 use Rattle.std.specs.Ordering.{is_eq}
 use Rattle.keys.specs.Order.{Laws, alike}
 use Rattle.keys.specs.Laws.{equal_from}
 use Rattle.lists.specs.Latest.{latest}
-use Rattle.lists.proofs.Latest.{latest_covers}
 use Rattle.table.specs.declared.slot.Slot.{Slot}
 use Rattle.table.specs.Slots.{pairs, at, none}
 use Rattle.table.specs.Index.{home, mark, tags, bit_of, capacity_of, bucket_of, Indexed}

@@ -3,7 +3,7 @@ use Rattle.std.proofs.Common.{◌≡◌, ℕ, ◌+◌, ◌<◌, ◌≤◌, ◌�
 use Rattle.std.proofs.lemmas.Bool.{cases_eq, cond-true, cond-false, eq-eqb, ne_eqb}
 use Rattle.lists.specs.Latest.{latest}
 use Rattle.lists.specs.Chains.{Chains, ChainsBut, Above}
-use Rattle.lists.proofs.Latest.{latest_range, latest_here, latest_covers}
+use Rattle.lists.proofs.Latest.{latest_range, latest_here}
 use Rattle.table.specs.Slots.{none, place_of}
 use Rattle.table.proofs.Links.{above_from as past_from}
 
