@@ -72,7 +72,7 @@ module _ {N : Type 0} (mem : List (Cell N)) where
 
 module _ {N V : Type 0} (K : Keys N V) (e : N) (mem : List (Cell N)) (kind : Kind) (d : Direction) (v : V) where
   -- what is to come is in the memory
-  upcoming_within : (w : Walk) (c : ℕ) → 1 ≤ count c (upcoming K e mem kind d v w) → c < length mem
+  pub upcoming_within : (w : Walk) (c : ℕ) → 1 ≤ count c (upcoming K e mem kind d v w) → c < length mem
   upcoming_within w c h = walked_within mem w.at w.left c (count_kept (showing K e mem kind d v) (walked mem w.at w.left) c h).0
 
   pub place_within : (w : Walk) (k : ℕ) (r : Option ℕ) (c : ℕ) → r ≡ slice_get (upcoming K e mem kind d v w) k → r ≡ Some c → c < length mem
