@@ -3,6 +3,7 @@ pub mod Frames
 pub mod RowEdits
 pub mod Gains
 pub mod Seating
+pub mod Sought
 pub mod Writes
 pub mod Joining
 pub mod Owners

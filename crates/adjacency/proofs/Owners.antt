@@ -13,10 +13,14 @@ use Rattle.rows.specs.declared.cells.Cell.{Cell}
 use Rattle.rows.specs.declared.cells.RowHead.{RowHead}
 use Rattle.rows.specs.HalfEdges.{twin}
 use Rattle.rows.specs.Links.{bare}
-use Rattle.halfedges.specs.Cells.{count, standing, row_at, named}
+use Rattle.halfedges.specs.Cells.{count, standing, row_at, named, Owned}
 use Rattle.halfedges.proofs.Rows.{held_in}
 use Rattle.adjacency.specs.Stages.{NodeRows, Stage, rowed, rows_of, keys_of}
 use Rattle.adjacency.proofs.Entries.{rowed_length, row_read}
+
+-- owners over other keys and rows that are the same
+pub owned_as : {N V : Type 0} (K : Keys N V) (d : N) (ks ks' : List N) (ns ns' : List (N × List ℕ)) → ks' ≡ ks → ns' ≡ ns → Owned K d ks ns → Owned K d ks' ns'
+owned_as K d ks ks' ns ns' e f O = subst (λ z. Owned K d z ns') (sym e) (subst (Owned K d ks) (sym f) O)
 
 -- the row at the place of a key is that key's
 pub owner_at : {N V : Type 0} (K : Keys N V) (laws : Laws K.order) (mem : List (Cell N)) (es : List (N × RowHead)) (v : V) (i : ℕ) → position (λ e. eq K (K.value e.0) v) es ≡ Some i

@@ -41,8 +41,11 @@ module _ {N V : Type 0} {value : N → V} {order : V → V → Ordering} {r : No
   not_here : (x : ℕ) → 1 ≤ standing x (rows_of r) → x / 2 ≡ p → ⊥
   not_here x h e = let z = off x e in let no : ⊥ = omega arith in no
 
-  rows_still : rows_of then ≡ rows_of r
+  pub rows_still : rows_of then ≡ rows_of r
   rows_still = ap (λ ns. map (λ e. (e.0, walk (λ x. get_or ns x 0) e.1.first e.1.len)) r.nodes.entries) en
+
+  pub standing_still : (x : ℕ) → standing x (rows_of then) ≡ standing x (rows_of r)
+  standing_still x = ap (standing x) rows_still
 
   owned_still : (d : N) → Owned (keys value order) d (keys_of then) (rows_of r)
   owned_still d =
@@ -51,7 +54,7 @@ module _ {N V : Type 0} {value : N → V} {order : V → V → Ordering} {r : No
       let u = stands_in_row d (rows_of r) i c l h in
       ap value (key_other d (keys_of r) p a b (twin c) (λ e. not_here c u (omega arith))) ∙ s.owned d i c l h)
 
-  stage_still : Stage value order then
+  pub stage_still : Stage value order then
   stage_still = record {
     apart = s.apart;
     fits = s.fits;
@@ -61,7 +64,7 @@ module _ {N V : Type 0} {value : N → V} {order : V → V → Ordering} {r : No
     owned = λ d. rw rows_still (owned_still d);
   }
 
-  noded_still : noded (keys_of then) (rows_of then) ≡ noded (keys_of r) (rows_of r)
+  pub noded_still : noded (keys_of then) (rows_of then) ≡ noded (keys_of r) (rows_of r)
   noded_still =
       (λ i. noded (ek i) (rows_still i))
       ∙ noded_agree a (keys_of r) (wrote (keys_of r) p a b) (rows_of r)

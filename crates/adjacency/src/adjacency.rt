@@ -9,15 +9,18 @@ use std::marker::Model;
 use table::slot::Slot;
 use table::table::{Table, Vacancy};
 
-/// The nodes of a map, each with the cells of its row, over lent memory.
+/// The nodes of a map, each with the cells of its row, over two lent memories.
 #[derive(Drop)]
-pub struct Adjacency<'a, N: NodeTrait> {
+pub struct NodesWithRows<'a, 'r, N: NodeTrait> {
     pub(crate) nodes: Table<'a, N, RowHead>,
-    pub(crate) rows: Rows<'a, N>,
+    pub(crate) rows: Rows<'r, N>,
 }
 
+/// The nodes and their rows over memories that are lent for one time.
+pub type Adjacency<'a, N> = NodesWithRows<'a, 'a, N>;
+
 // Clauses see the table of the nodes, and the cells of all rows.
-impl<'a, N: NodeTrait> Model for Adjacency<'a, N> {
+impl<'a, 'r, N: NodeTrait> Model for NodesWithRows<'a, 'r, N> {
     ghost use Rattle.adjacency.specs.Stages.{NodeRows, Stage};
 
     ghost Value = { NodeRows N };
@@ -27,17 +30,34 @@ impl<'a, N: NodeTrait> Model for Adjacency<'a, N> {
     ghost invariant = { λ s. Stage N.value N.order (record { nodes = s.nodes; cells = s.rows }) };
 }
 
-impl<'a, N: NodeTrait> Adjacency<'a, N> {
+impl<'a, 'r, N: NodeTrait> NodesWithRows<'a, 'r, N> {
     /// No nodes, over memories of any length; what they hold does not count.
-    pub fn new(nodes: &'a mut [Slot<N, RowHead>], cells: &'a mut [Cell<N>]) -> Self
+    pub fn new(nodes: &'a mut [Slot<N, RowHead>], cells: &'r mut [Cell<N>]) -> Self
         ensures entries { result.nodes.entries ≡ [] }
         ensures room { result.nodes.room ≡ min (length nodes.old) 65535 }
         ensures cells { result.cells ≡ take 131070 cells.old }
     {
-        Adjacency {
+        NodesWithRows {
             nodes: Table::new(nodes),
             rows: Rows::new(cells),
         }
+    }
+
+    /// The nodes of a table, with their rows in the cells, where these fit one another.
+    pub fn from_parts(nodes: Table<'a, N, RowHead>, rows: Rows<'r, N>) -> Self
+        requires stage { Stage N.value N.order (record { nodes = nodes; cells = rows }) }
+        ensures { result ≡ record { nodes = nodes.entry; cells = rows.entry } }
+    {
+        NodesWithRows { nodes, rows }
+    }
+
+    /// The table of the nodes, and the cells of all rows. They fit one another.
+    pub fn into_parts(self) -> (Table<'a, N, RowHead>, Rows<'r, N>)
+        ensures nodes { result.0 ≡ self.entry.nodes }
+        ensures cells { result.1 ≡ self.entry.cells }
+        ensures stage { Stage N.value N.order self.entry }
+    {
+        (self.nodes, self.rows)
     }
 
     /// How many nodes there are. Their rows fit one another.

@@ -8,10 +8,10 @@ ghost use Rattle.rows.specs.HalfEdges.{twin};
 ghost use Rattle.halfedges.specs.Cells.{count, standing, named, row_at, put_row};
 ghost use Rattle.adjacency.specs.Stages.{rows_of, keys_of};
 
-use crate::adjacency::Adjacency;
+use crate::adjacency::NodesWithRows;
 use keys::nodes::NodeTrait;
 
-impl<'a, N: NodeTrait> Adjacency<'a, N> {
+impl<'a, 'r, N: NodeTrait> NodesWithRows<'a, 'r, N> {
     // Puts the cell `c`, which stands in no row, at the end of the row of the node at `i`.
     pub(crate) fn enter(&mut self, i: usize, c: u32)
         requires place { i < length self.old.nodes.entries }

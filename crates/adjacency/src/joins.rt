@@ -12,8 +12,8 @@ ghost use Rattle.halfedges.specs.Cells.{standing, named, noded, wrote, Whole};
 ghost use Rattle.adjacency.specs.Stages.{rows_of, keys_of};
 ghost use Rattle.adjacency.specs.Seats.{vacant, seated_in, lacking_of};
 
-use crate::adjacency::Adjacency;
-use keys::nodes::NodeTrait;
+use crate::adjacency::NodesWithRows;
+use keys::nodes::{NodeTrait, same};
 use rows::cells::RowHead;
 use table::table::Vacancy;
 
@@ -24,7 +24,7 @@ pub fn lacking(first: Result<usize, Vacancy>, second: Result<usize, Vacancy>, on
     usize::from(first.is_err()) + usize::from(second.is_err() && !one)
 }
 
-impl<'a, N: NodeTrait> Adjacency<'a, N> {
+impl<'a, 'r, N: NodeTrait> NodesWithRows<'a, 'r, N> {
     // The place of `n`, by what the search for it answered: an absent one is put at the end, with an empty row.
     fn seat(&mut self, n: N, found: Result<usize, Vacancy>) -> usize
         requires found { found ≡ sought N.order N.value N.hashed self.old.nodes.room self.old.nodes.entries n }
@@ -98,7 +98,7 @@ impl<'a, N: NodeTrait> Adjacency<'a, N> {
     {
         self.write_link(p, a, b);
         self.note(a, first, (2 * p) as u32);
-        if a == b {
+        if same(&a, &b) {
             return;
         }
         self.note(b, second, (2 * p + 1) as u32);

@@ -8,7 +8,7 @@ ghost use Rattle.halfedges.specs.Cells.{count, row_at, put_row};
 ghost use Rattle.adjacency.specs.Looks.{Looked, PartedTwice};
 ghost use Rattle.adjacency.specs.Stages.{rows_of, keys_of};
 
-use crate::adjacency::Adjacency;
+use crate::adjacency::NodesWithRows;
 use keys::kinds::{Direction, Kind};
 use keys::nodes::NodeTrait;
 use rows::asked::Asked;
@@ -20,7 +20,7 @@ fn twin_of(c: u32) -> u32
     c ^ 1
 }
 
-impl<'a, N: NodeTrait> Adjacency<'a, N> {
+impl<'a, 'r, N: NodeTrait> NodesWithRows<'a, 'r, N> {
     /// The cell of the link from `a` to `b` in the row of `a`, which is the one at `i`; that of `b` is at `j`. Of the
     /// two rows the shorter is searched.
     pub fn entry_of(&self, kind: Kind, i: usize, j: usize, a: N, b: N) -> Option<u32>

@@ -6,10 +6,10 @@ ghost use Rattle.rows.specs.HalfEdges.{side, twin};
 ghost use Rattle.halfedges.specs.Cells.{standing, named, noded, moved, Whole, Off};
 ghost use Rattle.adjacency.specs.Stages.{rows_of, keys_of};
 
-use crate::adjacency::Adjacency;
-use keys::nodes::NodeTrait;
+use crate::adjacency::NodesWithRows;
+use keys::nodes::{NodeTrait, same};
 
-impl<'a, N: NodeTrait> Adjacency<'a, N> {
+impl<'a, 'r, N: NodeTrait> NodesWithRows<'a, 'r, N> {
     // Puts the cell `new`, which stands in no row and has the entry of `old`, where `old` stands in the row of `n`.
     fn shift(&mut self, n: N, old: u32, new: u32)
         requires held { standing old (rows_of self.old) ≡ 1 }
@@ -46,7 +46,7 @@ impl<'a, N: NodeTrait> Adjacency<'a, N> {
         let second = self.rows.key((2 * l + 1) as u32);
         self.write_link(g, second, first);
         self.shift(second, (2 * l) as u32, (2 * g) as u32);
-        if second == first {
+        if same(&second, &first) {
             return;
         }
         self.shift(first, (2 * l + 1) as u32, (2 * g + 1) as u32);

@@ -6,17 +6,33 @@ ghost use Rattle.rows.specs.Walks.{upcoming};
 ghost use Rattle.adjacency.specs.Heads.{head_of, row_of};
 ghost use Rattle.adjacency.specs.Stages.{Stage, keys_of};
 
-use crate::adjacency::Adjacency;
+use crate::adjacency::NodesWithRows;
 use keys::nodes::NodeTrait;
 use rows::asked::Asked;
 use rows::cells::{Cell, RowHead};
 use rows::walk::Walk;
 use table::table::Table;
 
-impl<'a, N: NodeTrait> Adjacency<'a, N> {
-    /// The table of the nodes, each with the head of its row.
+/// The head of the row of `n` in a table of nodes, where there is such a node.
+pub fn head_of<N: NodeTrait>(nodes: &Table<'_, N, RowHead>, n: &N) -> Option<RowHead>
+    ensures { result ≡ head_of (keys N.value N.order) (N.value n.now) nodes.now.entries }
+{
+    let i = nodes.find(n).ok()?;
+    Some(nodes.value_at(i))
+}
+
+/// The same, and the row of no cells for an absent node.
+pub fn row_of<N: NodeTrait>(nodes: &Table<'_, N, RowHead>, n: &N) -> RowHead
+    ensures { result ≡ row_of (keys N.value N.order) (N.value n.now) nodes.now.entries }
+{
+    head_of(nodes, n).unwrap_or(RowHead::empty())
+}
+
+impl<'a, 'r, N: NodeTrait> NodesWithRows<'a, 'r, N> {
+    /// The table of the nodes, each with the head of its row. Their rows fit one another.
     pub fn nodes(&self) -> &Table<'a, N, RowHead>
-        ensures { result.now ≡ self.now.nodes }
+        ensures table { result.now ≡ self.now.nodes }
+        ensures stage { Stage N.value N.order self.now }
     {
         &self.nodes
     }
@@ -33,8 +49,7 @@ impl<'a, N: NodeTrait> Adjacency<'a, N> {
         ensures head { result ≡ head_of (keys N.value N.order) (N.value n.now) self.now.nodes.entries }
         ensures stage { Stage N.value N.order self.now }
     {
-        let i = self.nodes.find(n).ok()?;
-        Some(self.nodes.value_at(i))
+        head_of(&self.nodes, n)
     }
 
     /// The same, and the row of no cells for an absent node.
@@ -42,7 +57,7 @@ impl<'a, N: NodeTrait> Adjacency<'a, N> {
         ensures row { result ≡ row_of (keys N.value N.order) (N.value n.now) self.now.nodes.entries }
         ensures stage { Stage N.value N.order self.now }
     {
-        self.head(n).unwrap_or(RowHead::empty())
+        row_of(&self.nodes, n)
     }
 
     /// The key of the cell `c`.

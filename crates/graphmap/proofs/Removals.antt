@@ -53,7 +53,7 @@ module _ {N V E : Type 0} {value : N → V} {order : V → V → Ordering} {m : 
   seat d = seat_of K laws d ks m.rows t.apart
 
   -- without the link nothing is done
-  nothing_done : link ≡ None → (None, state_of m) ≡ remove_edge K a b (state_of m)
+  pub nothing_done : link ≡ None → (None, state_of m) ≡ remove_edge K a b (state_of m)
   nothing_done h = sym (ap (λ f. remove_found K f a b (state_of m)) (found_none (is_link K (canon K m.kind (value a) (value b))) ls h))
 
   -- there is none where one of its ends is absent

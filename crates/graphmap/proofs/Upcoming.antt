@@ -1,7 +1,6 @@
 -- The cells that are to come of a walk, over any memory, and of a walk from the start of a row.
-use Rattle.std.proofs.Common.{◌≡◌, ℕ, zero, suc, ◌<◌, ◌≤◌, true, ltb, List, [], ◌∷◌, map, length, get_or, Some, Option, sym, refl, ap, ◌∙◌, subst, ⊎_elim, arith}
+use Rattle.std.proofs.Common.{◌≡◌, ℕ, zero, suc, ◌<◌, ◌≤◌, true, ltb, List, [], ◌∷◌, map, length, get_or, Some, None, Option, sym, refl, ap, ◌∙◌, subst, ⊎_elim, arith}
 use Rattle.std.specs.List.{slice_get}
-use Rattle.std.proofs.lemmas.List.{length-map}
 use Rattle.std.proofs.lemmas.Simd.{map-map}
 use Rattle.std.proofs.lemmas.Bool.{cases_lt, cases_eq, lt-ltb, le-ltb, cond-true, cond-false}
 use Rattle.keys.specs.declared.kinds.Direction.{Direction}
@@ -37,7 +36,16 @@ first_turned {X} f (v ∷ vs) ys r x y e q p =
     let s : x ≡ v = cc in
     λ i. ((p ∙ ap f s) i, (e i).1)
 
-first_count : (xs ys : List ℕ) (r : Option ℕ) (c : ℕ) → ◌≡◌ {A = Option ℕ × List ℕ} (r, ys) (first_of xs) → r ≡ Some c → 1 ≤ count c xs
+-- the same at the end
+pub first_ended : {X Y : Type 0} (f : X → Option Y) (xs ys : List X) (r : Option X) → ◌≡◌ {A = Option X × List X} (r, ys) (first_of xs) → r ≡ None
+    → ◌≡◌ {A = Option Y × List X} (None, ys) (first_by f xs)
+first_ended f [] ys r e q = λ i. (None, (e i).1)
+first_ended f (y ∷ zs) ys r e q =
+    let p = ap (λ z. z.0) e in
+    let z : ◌≡◌ {A = ℕ} 0 1 = cc in
+    absurd (omega arith)
+
+pub first_count : (xs ys : List ℕ) (r : Option ℕ) (c : ℕ) → ◌≡◌ {A = Option ℕ × List ℕ} (r, ys) (first_of xs) → r ≡ Some c → 1 ≤ count c xs
 first_count [] ys r c e q =
     let p = ap (λ (z : Option ℕ × List ℕ). z.0) e in
     let z : ◌≡◌ {A = ℕ} 0 1 = cc in
@@ -64,11 +72,11 @@ module _ {N : Type 0} (mem : List (Cell N)) where
 
 module _ {N V : Type 0} (K : Keys N V) (e : N) (mem : List (Cell N)) (kind : Kind) (d : Direction) (v : V) where
   -- what is to come is in the memory
-  upcoming_within : (w : Walk) (c : ℕ) → 1 ≤ count c (upcoming K e mem kind d v w) → c < length mem
+  pub upcoming_within : (w : Walk) (c : ℕ) → 1 ≤ count c (upcoming K e mem kind d v w) → c < length mem
   upcoming_within w c h = walked_within mem w.at w.left c (count_kept (showing K e mem kind d v) (walked mem w.at w.left) c h).0
 
-  pub place_within : (w : Walk) (k : ℕ) (r : Option ℕ) (c : ℕ) → r ≡ slice_get (upcoming K e mem kind d v w) k → r ≡ Some c → c < length (cell_keys mem)
-  place_within w k r c at is = omega (arith, length-map mem (λ x. x.key), upcoming_within w c (count_place (upcoming K e mem kind d v w) k c (sym is ∙ at)))
+  pub place_within : (w : Walk) (k : ℕ) (r : Option ℕ) (c : ℕ) → r ≡ slice_get (upcoming K e mem kind d v w) k → r ≡ Some c → c < length mem
+  place_within w k r c at is = upcoming_within w c (count_place (upcoming K e mem kind d v w) k c (sym is ∙ at))
 
   pub first_within : (w : Walk) (ys : List ℕ) (r : Option ℕ) (c : ℕ) → ◌≡◌ {A = Option ℕ × List ℕ} (r, ys) (first_of (upcoming K e mem kind d v w)) → r ≡ Some c → c < length mem
   first_within w ys r c at is = upcoming_within w c (first_count (upcoming K e mem kind d v w) ys r c at is)

@@ -5,5 +5,8 @@ pub mod adding;
 mod edges;
 pub mod map;
 pub mod neighbors;
+pub mod parts;
 pub mod questions;
 pub mod removing;
+#[cfg(test)]
+mod tests;

@@ -2,16 +2,17 @@ ghost use Rattle.std.specs.Prelude.{◌≡◌, ℕ, ◌<◌, map, length, Some a
 ghost use Rattle.model.specs.Keys.{keys};
 ghost use Rattle.model.specs.Questions.{neighbor_list, edge_list};
 ghost use Rattle.rows.specs.Walks.{first_of};
-ghost use Rattle.graphmap.specs.Parts.{state_of};
+ghost use Rattle.graphmap.specs.Parts.{SoundParts, parts_of, state_of};
 ghost use Rattle.graphmap.specs.Walks.{first_by, origin, coming, key_of, edge_of};
 
 use crate::edges::edge_at;
 use crate::map::GraphMap;
+use adjacency::reads::row_of;
 use keys::kinds::{Direction, Kind};
 use keys::nodes::NodeTrait;
 use model::edge::Edge;
 use rows::asked::Asked;
-use rows::cells::Cell;
+use rows::cells::{Cell, RowHead};
 use rows::walk::{Walk, advance};
 use table::table::Table;
 
@@ -31,11 +32,9 @@ impl<'a, N: NodeTrait, E: Copy> GraphMap<'a, N, E> {
         ensures neighbors { (e : N) → map (key_of e self.now.rows.cells) (coming (keys N.value N.order) e self.now.rows.cells self.now.kind result) ≡ neighbor_list (keys N.value N.order) n d (state_of self.now) }
         ensures edges { (e : N) → map (edge_of e self.now.rows.cells self.now.links.entries (n, d)) (coming (keys N.value N.order) e self.now.rows.cells self.now.kind result) ≡ map Present (edge_list (keys N.value N.order) n d (state_of self.now)) }
     {
-        Neighbors {
-            start: n,
-            direction: d,
-            walk: Walk::of(self.adjacency.row(&n)),
-        }
+        let nodes = self.adjacency.nodes();
+        let cells = self.adjacency.cells();
+        neighbors_from(self.kind, nodes, &self.links, cells, n, d)
     }
 
     /// The next neighbour of the walk.
@@ -52,6 +51,27 @@ impl<'a, N: NodeTrait, E: Copy> GraphMap<'a, N, E> {
         ensures next { (e : N) → let left = coming (keys N.value N.order) e self.now.rows.cells self.now.kind in (result, left w.new) ≡ first_by (edge_of e self.now.rows.cells self.now.links.entries (origin w.old)) (left w.old) }
     {
         next_edge(self.kind, &self.links, self.adjacency.cells(), w)
+    }
+}
+
+/// A walk from the start of the row of `n`, in the parts of a map; of an absent node nothing is to come.
+pub fn neighbors_from<N: NodeTrait, E: Copy>(
+    kind: Kind,
+    nodes: &Table<'_, N, RowHead>,
+    links: &Table<'_, (N, N), E>,
+    cells: &[Cell<N>],
+    n: N,
+    d: Direction,
+) -> Neighbors<N>
+    requires sound { SoundParts N.value N.order (parts_of kind nodes.now links.now cells.now) }
+    ensures origin { origin result ≡ (n, d) }
+    ensures neighbors { (e : N) → map (key_of e cells.now) (coming (keys N.value N.order) e cells.now kind result) ≡ neighbor_list (keys N.value N.order) n d (state_of (parts_of kind nodes.now links.now cells.now)) }
+    ensures edges { (e : N) → map (edge_of e cells.now links.now.entries (n, d)) (coming (keys N.value N.order) e cells.now kind result) ≡ map Present (edge_list (keys N.value N.order) n d (state_of (parts_of kind nodes.now links.now cells.now))) }
+{
+    Neighbors {
+        start: n,
+        direction: d,
+        walk: Walk::of(row_of(nodes, &n)),
     }
 }
 

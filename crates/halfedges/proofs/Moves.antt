@@ -1,6 +1,7 @@
 -- The last link takes the place of one that has gone: its cells are written anew, and stand where the old ones stood.
-use Rattle.std.proofs.Common.{◌≡◌, ℕ, ◌+◌, ◌-◌, ◌*◌, ◌/◌, ◌<◌, ◌≤◌, true, false, not, eqb, List, length, get_or, sym, ap, ◌∙◌, ⊎_elim, arith}
+use Rattle.std.proofs.Common.{◌≡◌, ℕ, ◌+◌, ◌-◌, ◌*◌, ◌/◌, ◌<◌, ◌≤◌, true, false, not, eqb, List, length, get_or, set, sym, ap, ◌∙◌, ⊎_elim, arith}
 use Rattle.std.proofs.lemmas.Bool.{cases_eq}
+use Rattle.std.proofs.lemmas.List.{set-get_or}
 use Rattle.keys.specs.declared.kinds.Kind.{Kind}
 use Rattle.lists.specs.Swap.{swap_removed}
 use Rattle.lists.proofs.Swap.{length_swap_removed, swap_removed_at, swap_removed_other}
@@ -12,6 +13,11 @@ use Rattle.model.proofs.Ends.{values}
 use Rattle.halfedges.specs.Cells.{standing, moved, named, stands, Whole, Off, Keyed}
 use Rattle.halfedges.proofs.Counts.{bit_is, bit_other}
 use Rattle.halfedges.proofs.Stands.{stands_out, stands_even, stands_odd, stands_keys, stands_fewer, key_other, key_first, key_second, named_second, owner_second}
+
+-- a link that is moved to its own place
+pub moved_itself : {N : Type 0} (ks : List N) (d : N) (l : ℕ) → moved ks d l l ≡ ks
+moved_itself ks d l =
+    ap (λ z. set z (2 * l + 1) (get_or ks (2 * l + 1) d)) (set-get_or ks (2 * l) d) ∙ set-get_or ks (2 * l + 1) d
 
 module _ {N V : Type 0} (K : Keys N V) (d : N) (ks : List N) (g l : ℕ) (ns : List (N × List ℕ)) (off : Off K d ks g (l + 1) ns) where
   -- where the last link has gone, nothing is moved

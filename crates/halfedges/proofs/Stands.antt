@@ -95,6 +95,9 @@ module _ {N V : Type 0} (K : Keys N V) (d : N) where
     pub named_second : named K d (wrote ks p a b) (2 * p + 1) ≡ K.value a
     named_second = ap K.value (key_second d ks p a b fits)
 
+    pub owner_first : named K d (wrote ks p a b) (twin (2 * p)) ≡ K.value a
+    owner_first = let e : twin (2 * p) ≡ 2 * p + 1 = omega arith in ap (named K d (wrote ks p a b)) e ∙ named_second
+
     pub owner_second : named K d (wrote ks p a b) (twin (2 * p + 1)) ≡ K.value b
     owner_second = let e : twin (2 * p + 1) ≡ 2 * p = omega arith in ap (named K d (wrote ks p a b)) e ∙ named_first
 

@@ -41,6 +41,10 @@ pub told_push : {N : Type 0} (d : N) (ks : List N) (xs : List ℕ) (c : ℕ) →
 told_push d [] xs c l = absurd (omega arith)
 told_push d (k ∷ ks) xs c l = map-append _ xs (c ∷ []) ∙ ap (λ z. told (k ∷ ks) xs ++ (z, side c) ∷ []) (get_or_default (k ∷ ks) c k d l)
 
+pub told_first : {N : Type 0} (d : N) (ks : List N) (c : ℕ) (xs : List ℕ) → c < length ks → told ks (c ∷ xs) ≡ entry d ks c ∷ told ks xs
+told_first d [] c xs l = absurd (omega arith)
+told_first d (k ∷ ks) c xs l = ap (λ z. (z, side c) ∷ told (k ∷ ks) xs) (get_or_default (k ∷ ks) c k d l)
+
 pub told_none : {N : Type 0} (ks : List N) → told ks [] ≡ []
 told_none [] = refl
 told_none (k ∷ ks) = refl

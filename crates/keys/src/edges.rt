@@ -22,7 +22,7 @@ impl<N: Copy, E: Weight> IntoWeightedEdge<E> for (N, N) {
 
     fn into_weighted_edge(self) -> (N, N, E) {
         let (source, target) = self;
-        (source, target, E::default())
+        (source, target, E::default_weight())
     }
 }
 

@@ -4,6 +4,7 @@
 pub mod edges;
 pub mod kinds;
 pub mod nodes;
+pub mod order;
 pub mod refusals;
 #[cfg(test)]
 mod tests;

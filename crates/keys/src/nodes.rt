@@ -1,46 +1,37 @@
 ghost use Rattle.std.specs.Prelude.{◌≡◌, ℕ};
 ghost use Rattle.std.proofs.Common.{rules};
-ghost use Rattle.std.specs.declared.cmp.Ordering.{Ordering};
-ghost use Rattle.keys.specs.Order.{Laws};
 ghost use Rattle.keys.specs.Hashes.{spread_of, fold_of, packed_of, seat_hash, pair_hash};
 ghost use Rattle.keys.specs.Nodes.{by_number, by_both, by_seat};
 ghost use Rattle.keys.specs.Laws.{number_laws, pair_laws, both_by};
 
-/// What a node of a map is: a key that is compared by its value, with a hash that depends on its value alone.
-/// Two keys of one value are the same key, however they are represented.
-pub trait NodeTrait: Copy + Ord {
-    ghost Value: { Type 0 };
-
-    ghost value: { Self → Value };
-
-    ghost order: { Value → Value → Ordering };
-
-    ghost hashed: { Self → ℕ };
-
-    fn hash(&self) -> u64
-        ensures { (k : Self) → value k ≡ value self.now → hashed k ≡ result };
-
-    ghost ordered: { Laws order };
-
-    ghost compares: { (a b : Self) → Self.cmp a b ≡ order (value a) (value b) };
-}
+pub use crate::order::{Compare, NodeTrait, OrdByValue, same};
+use std::cmp::Ordering;
+use std::fmt;
 
 /// An account by its number.
 #[derive(Clone, Copy, PartialEq, Eq, PartialOrd, Ord, Debug)]
 pub struct Account(pub u32);
 
-impl NodeTrait for Account {
+impl Compare for Account {
     ghost Value = { ℕ };
 
     ghost value = { λ a. a.0 };
 
     ghost order = { by_number };
 
-    ghost hashed = { λ a. spread_of a.0 };
-
     ghost ordered = { number_laws };
 
+    fn compare(&self, other: &Account) -> Ordering {
+        self.0.cmp(&other.0)
+    }
+}
+
+impl OrdByValue for Account {
     ghost compares = { Prim.search rules };
+}
+
+impl NodeTrait for Account {
+    ghost hashed = { λ a. spread_of a.0 };
 
     fn hash(&self) -> u64 {
         spread(u64::from(self.0))
@@ -48,11 +39,22 @@ impl NodeTrait for Account {
 }
 
 /// A seat of a hall. Seats go by row, then by section, then by number.
-#[derive(Clone, Copy, PartialEq, Eq, PartialOrd, Ord, Debug)]
+#[derive(Clone, Copy, PartialEq, Eq, PartialOrd, Ord)]
 pub struct Seat {
     pub row: u8,
     pub section: u8,
     pub number: u16,
+}
+
+// By hand: a seat is shown by its section first, and ordered by its row first.
+impl fmt::Debug for Seat {
+    fn fmt<W: fmt::Write>(&self, f: &mut fmt::Formatter<W>) -> fmt::Result {
+        f.debug_struct("Seat")
+            .field("section", &self.section)
+            .field("row", &self.row)
+            .field("number", &self.number)
+            .finish()
+    }
 }
 
 impl Seat {
@@ -64,18 +66,26 @@ impl Seat {
     }
 }
 
-impl NodeTrait for Seat {
+impl Compare for Seat {
     ghost Value = { ℕ × (ℕ × ℕ) };
 
     ghost value = { λ s. (s.row, (s.section, s.number)) };
 
     ghost order = { by_seat };
 
-    ghost hashed = { λ s. seat_hash s.row s.section s.number };
-
     ghost ordered = { pair_laws by_number (by_both by_number by_number) number_laws (pair_laws by_number by_number number_laws number_laws) };
 
+    fn compare(&self, other: &Seat) -> Ordering {
+        self.cmp(other)
+    }
+}
+
+impl OrdByValue for Seat {
     ghost compares = { Prim.search rules };
+}
+
+impl NodeTrait for Seat {
+    ghost hashed = { λ s. seat_hash s.row s.section s.number };
 
     fn hash(&self) -> u64 {
         fold(spread(self.packed()))
@@ -83,18 +93,29 @@ impl NodeTrait for Seat {
 }
 
 /// Two keys together are a key: the first parts are compared, and the second where those are equal.
-impl<A: NodeTrait, B: NodeTrait> NodeTrait for (A, B) {
+impl<A: Compare, B: Compare> Compare for (A, B) {
     ghost Value = { A.Value × B.Value };
 
     ghost value = { λ p. (A.value p.0, B.value p.1) };
 
     ghost order = { by_both A.order B.order };
 
-    ghost hashed = { λ p. pair_hash (A.hashed p.0) (B.hashed p.1) };
-
     ghost ordered = { pair_laws A.order B.order A.ordered B.ordered };
 
+    fn compare(&self, other: &(A, B)) -> Ordering {
+        match self.0.compare(&other.0) {
+            Ordering::Equal => self.1.compare(&other.1),
+            decided => decided,
+        }
+    }
+}
+
+impl<A: OrdByValue, B: OrdByValue> OrdByValue for (A, B) {
     ghost compares = { λ p q. both_by (A.compares p.0 q.0) (B.compares p.1 q.1) };
+}
+
+impl<A: NodeTrait, B: NodeTrait> NodeTrait for (A, B) {
+    ghost hashed = { λ p. pair_hash (A.hashed p.0) (B.hashed p.1) };
 
     fn hash(&self) -> u64 {
         fold(self.0.hash().rotate_left(29) ^ self.1.hash())

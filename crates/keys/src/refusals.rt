@@ -5,31 +5,31 @@ ghost use Rattle.keys.specs.Refusals.{number_of};
 #[derive(Clone, Copy, PartialEq, Eq, Debug)]
 pub enum Refusal {
     /// The link is new, and there are as many links as the map can hold.
-    LinksFull = 1,
+    LinksFull,
     /// The keys that are not in the map yet do not fit in its room for nodes.
-    NodesFull = 2,
+    NodesFull,
     /// The node is not in the map.
-    NodeAbsent = 3,
+    NodeAbsent,
     /// The link is not in the map.
-    LinkAbsent = 4,
+    LinkAbsent,
     /// The index is at or past the count of nodes.
-    PastCount = 5,
+    PastCount,
     /// The graph would have more nodes than its numbers can count.
-    GraphNodesFull = 6,
+    GraphNodesFull,
     /// The graph would have more links than its numbers can count.
-    GraphLinksFull = 7,
+    GraphLinksFull,
     /// The memory for the graph is too short.
-    GraphMemoryShort = 8,
+    GraphMemoryShort,
     /// An end of the link is past the graph's nodes.
-    EndPastNodes = 9,
+    EndPastNodes,
     /// The tape has a record of an unknown kind.
-    UnknownRecord = 10,
+    UnknownRecord,
     /// The tape ends inside a record.
-    RecordCut = 11,
+    RecordCut,
     /// The output does not fit in its memory.
-    NoRoom = 12,
+    NoRoom,
     /// The input is longer than can be read.
-    InputTooLong = 13,
+    InputTooLong,
 }
 
 impl Refusal {
@@ -37,6 +37,6 @@ impl Refusal {
     pub fn number(self) -> u8
         ensures { result ≡ number_of self }
     {
-        self as u8
+        self as u8 + 1
     }
 }

@@ -1,14 +1,14 @@
 ghost use Rattle.std.specs.Prelude.{◌≡◌};
-ghost use Rattle.std.proofs.Common.{rules};
 ghost use Rattle.keys.specs.Weights.{no_price, no_listing};
 
-/// What a link can carry: a value that has a default, the weight of a link that is given without one.
+/// What a link can carry: a value that has a default.
 // A trait beside `Default`, which says of each value whether it may be given, and names none.
-pub trait Weight: Copy + Default {
+pub trait Weight: Copy {
     ghost defaulted: { Self };
 
-    // Nothing but that value is a default.
-    ghost sole: { (w : Self) → Self.is_default w → w ≡ defaulted };
+    /// The weight of a link that is given without one.
+    fn default_weight() -> Self
+        ensures { result ≡ defaulted };
 }
 
 /// A price in cents.
@@ -18,7 +18,9 @@ pub struct Price(pub u32);
 impl Weight for Price {
     ghost defaulted = { no_price };
 
-    ghost sole = { Prim.search rules };
+    fn default_weight() -> Price {
+        Price::default()
+    }
 }
 
 /// A numbered offer with its price.
@@ -31,5 +33,7 @@ pub struct Listing {
 impl Weight for Listing {
     ghost defaulted = { no_listing };
 
-    ghost sole = { Prim.search rules };
+    fn default_weight() -> Listing {
+        Listing::default()
+    }
 }

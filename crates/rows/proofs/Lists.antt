@@ -51,6 +51,10 @@ module _ {K : Type 0} {mem : List (Cell K)} {h : RowHead} {xs : List ℕ} (row :
   pub held_within : {x : ℕ} → Holds x xs → x < length mem
   held_within held = at_within held.0 held.1 held.2
 
+  -- the row whose last is given as l
+  pub last_as : {l : ℕ} → h.last ≡ l → Row mem (record { first = h.first; last = l; len = h.len }) xs
+  last_as e = subst (λ l. Row mem (record { first = h.first; last = l; len = h.len }) xs) e row
+
   -- the two ends of a row that has cells
   module _ (some : 0 < h.len) where
     pub first_nth : h.first ≡ nth xs 0

@@ -6,7 +6,7 @@ use Rattle.std.proofs.lemmas.Bool.{eq-eqb, ne_eqb, cond-true, cond-false}
 use Rattle.rows.specs.declared.cells.Cell.{Cell}
 use Rattle.rows.specs.declared.cells.RowHead.{RowHead}
 use Rattle.rows.specs.Rings.{none}
-use Rattle.rows.specs.Links.{next_of, prev_of, cell_keys, Joined}
+use Rattle.rows.specs.Links.{nexts, next_of, prev_of, cell_keys, Joined}
 
 -- the link of x, where the head has that of the cell none: `next_of` and `prev_of` are such
 abbrev pub link_of : {K : Type 0} → (Cell K → ℕ) → (RowHead → ℕ) → List (Cell K) → RowHead → ℕ → ℕ
@@ -71,3 +71,37 @@ module _ {K : Type 0} (f g : Cell K → ℕ) (tip end : RowHead → ℕ) {mem m�
     where
       written : map f (set mem a new) ≡ set (map f mem) a (f new)
       written = map-set f mem a new
+
+-- the first that a row had does not matter where another is written
+pub first_over : {K : Type 0} {mem mem' : List (Cell K)} {h h' : RowHead} {b : ℕ} (f : ℕ)
+    → Joined mem (record { first = f; last = h.last; len = h.len }) mem' h' none b → Joined mem h mem' h' none b
+first_over f s = record {
+  onward = s.onward;
+  back = s.back;
+  nexts = λ x nx. let off = ne_eqb x none nx in s.nexts x nx ∙ cond-false _ _ _ off ∙ sym (cond-false _ _ _ off);
+  prevs = s.prevs;
+  others = s.others;
+  keys = s.keys;
+  len = s.len;
+}
+
+-- nor does what came after a cell, where that is written anew
+pub next_over : {K : Type 0} {mem mem' : List (Cell K)} {h h' : RowHead} {a b : ℕ} (d : Cell K) (n : ℕ)
+    → Joined (set mem a (record { key = (get_or mem a d).key; prev = (get_or mem a d).prev; next = n })) h mem' h' a b → Joined mem h mem' h' a b
+next_over {K} {mem} {mem'} {h} {h'} {a} {b} d n s =
+    let new : Cell K = record { key = (get_or mem a d).key; prev = (get_or mem a d).prev; next = n } in
+    record {
+      onward = s.onward;
+      back = s.back;
+      nexts = λ x nx.
+          s.nexts x nx
+          ∙ ap (λ y. cond (eqb x none) h.first y)
+          (ap (λ xs. get_or xs x 0) (map-set (λ c. c.next) mem a new) ∙ get_or-set_other (nexts mem) a x n 0 nx);
+      prevs = λ x nb. s.prevs x nb ∙ ap (λ xs. cond (eqb x none) h.last (get_or xs x 0)) (map-set_same (λ c. c.prev) mem a new d refl);
+      others = λ x e na nb. s.others x e na nb ∙ get_or-set_other mem a x new e na;
+      keys = s.keys ∙ map-set_same (λ c. c.key) mem a new d refl;
+      len = s.len;
+    }
+
+-- two cells are joined, whatever the links were that are written over
+pub ruleset over = (first_over, next_over)

@@ -17,7 +17,11 @@ use Rattle.rows.specs.declared.walk.Walk.{Walk}
 use Rattle.rows.specs.declared.walk.Steps.{Steps}
 use Rattle.rows.specs.Rings.{nth}
 use Rattle.rows.specs.Links.{nexts, cell_keys, walk, Linked, listed}
-use Rattle.rows.specs.Walks.{walked, met, met_at, still_met, StepsOn, first_of}
+use Rattle.rows.specs.Walks.{walk_of, walked, showing, upcoming, met, met_at, still_met, StepsOn, first_of}
+use Rattle.keys.specs.declared.kinds.Direction.{Direction}
+use Rattle.keys.specs.declared.kinds.Kind.{Kind}
+use Rattle.model.specs.Keys.{Keys}
+use Rattle.model.specs.Lists.{kept}
 use Rattle.rows.proofs.Lists.{listed_length}
 
 -- a cell by its number and its key
@@ -63,6 +67,11 @@ module _ {K : Type 0} (mem : List (Cell K)) where
             ap (λ o. map keyed (met_at x o (λ c. met mem c.next n))) w.1
             ∙ sym (ap (map (keyed_in e mem)) (cond-false _ _ _ (le-ltb x (length mem) w.0)))
       ]
+
+-- at the start of a row all that is shown is to come
+pub upcoming_listed : {N V : Type 0} (K : Keys N V) (e : N) (mem : List (Cell N)) (kind : Kind) (d : Direction) (v : V) (h : RowHead) → Linked mem h
+    → upcoming K e mem kind d v (walk_of h) ≡ kept (showing K e mem kind d v) (listed mem h)
+upcoming_listed K e mem kind d v h linked = ap (kept (showing K e mem kind d v)) (walked_listed mem h linked)
 
 -- what is seen of a cell that is met
 abbrev pub seen : {K : Type 0} → ℕ × Bor (Cell K) → ℕ × K

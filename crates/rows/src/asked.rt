@@ -6,7 +6,7 @@ ghost use Rattle.rows.specs.HalfEdges.{side};
 
 use crate::sides::{agrees, side_of};
 use keys::kinds::{Direction, Kind};
-use keys::nodes::NodeTrait;
+use keys::nodes::{NodeTrait, same};
 
 /// What a row is asked: for a node and a direction, in a map of that kind.
 #[derive(Clone, Copy)]
@@ -28,13 +28,13 @@ impl<N: NodeTrait> Asked<N> {
     pub(crate) fn names(&self, x: u32, key: &N) -> bool
         ensures { result ≡ hits (keys N.value N.order) self.now.kind (N.value self.now.node) self.now.direction (key.now, side x) }
     {
-        *key == self.node && self.agrees(x)
+        same(key, &self.node) && self.agrees(x)
     }
 
     // Whether the direction shows the entry of the cell `x` of the key `key` in the row of the node.
     pub(crate) fn shows(&self, x: u32, key: &N) -> bool
         ensures { result ≡ shown (keys N.value N.order) self.now.kind self.now.direction (N.value self.now.node) (key.now, side x) }
     {
-        self.agrees(x) || *key == self.node
+        self.agrees(x) || same(key, &self.node)
     }
 }

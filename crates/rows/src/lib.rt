@@ -3,6 +3,7 @@
 
 pub mod asked;
 pub mod cells;
+pub mod changes;
 pub mod memory;
 pub mod questions;
 pub mod row;

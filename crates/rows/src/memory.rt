@@ -8,10 +8,10 @@ use std::marker::Model;
 /// The most links that a map has: as many as a table has entries.
 pub const MOST_LINKS: usize = 65_535;
 
-/// The memory of the rows, two cells for each link.
+/// The memory of the rows, two cells for each link. It may be read, written, lent on and taken back.
 #[derive(Drop)]
 pub struct Rows<'a, N> {
-    pub(crate) cells: &'a mut [Cell<N>],
+    pub cells: &'a mut [Cell<N>],
 }
 
 // Clauses see the list of the cells.
@@ -58,18 +58,7 @@ impl<'a, N: Copy> Rows<'a, N> {
         ensures links { result ≡ length self.now / 2 }
         ensures small { length self.now ≤ none }
     {
-        self.cells.len() / 2
-    }
-
-    // The cell `c`.
-    pub(crate) fn cell(&self, c: u32) -> Cell<N>
-        requires { c < length self.now }
-        ensures cell { (d : _) → result ≡ slice_index_or self.now c d }
-        ensures small { length self.now ≤ none }
-    {
-        // Bound to a name first, as the proof learns the slice's size where the field is read.
-        let cells: &[Cell<N>] = self.cells;
-        cells[c as usize]
+        room(self.cells)
     }
 
     /// The key of the cell `c`.
@@ -77,7 +66,7 @@ impl<'a, N: Copy> Rows<'a, N> {
         requires { c < length self.now }
         ensures { (d : N) → result ≡ slice_index_or (cell_keys self.now) c d }
     {
-        self.cell(c).key
+        cell(self.cells, c).key
     }
 
     /// Writes the key of the cell `c`. The rows stay as they are.
@@ -91,6 +80,13 @@ impl<'a, N: Copy> Rows<'a, N> {
     }
 }
 
+/// How many links any memory has cells for.
+pub fn room<N>(cells: &[Cell<N>]) -> usize
+    ensures { result ≡ length cells.now / 2 }
+{
+    cells.len() / 2
+}
+
 /// Writes the key of the cell `c` of any memory. The links stay as they are.
 pub fn set_key<N: Copy>(cells: &mut [Cell<N>], c: usize, k: N)
     requires { c < length cells.old }
@@ -99,4 +95,12 @@ pub fn set_key<N: Copy>(cells: &mut [Cell<N>], c: usize, k: N)
     ensures prevs { prevs cells.new ≡ prevs cells.old }
 {
     cells[c].key = k;
+}
+
+// The cell `c` of any memory.
+pub(crate) fn cell<N: Copy>(cells: &[Cell<N>], c: u32) -> Cell<N>
+    requires { c < length cells.now }
+    ensures { (d : _) → result ≡ slice_index_or cells.now c d }
+{
+    cells[c as usize]
 }

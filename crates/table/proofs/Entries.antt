@@ -1,6 +1,6 @@
 -- The entries of a table, in the slots that hold them.
 use Rattle.std.proofs.Common.{◌≡◌, ℕ, ◌+◌, ◌<◌, ◌≤◌, List, [], ◌∷◌, ◌++◌, length, get_or, take, set, Some, option_map, sym, refl, ap, ◌∙◌, arith}
-use Rattle.std.proofs.lemmas.List.{length-take-le, length-map, get_or-take, take_more_set}
+use Rattle.std.proofs.lemmas.List.{length-map, take_more_set}
 use Rattle.std.proofs.lemmas.Option.{slice_get-map, slice_get_read, slice_get_within}
 use Rattle.std.specs.List.{slice_get}
 use Rattle.lists.proofs.Chains.{emptied}
@@ -9,6 +9,7 @@ use Rattle.table.specs.Slots.{pairs, none}
 use Rattle.table.specs.Index.{capacity_of, Indexed, Emptied}
 use Rattle.table.specs.Content.{Content, content, Sound}
 use Rattle.table.proofs.Capacity.{within_memory, within_links}
+use Rattle.table.proofs.Slices.{length_entries as length_of_entries, entry_at as entry_of_slice}
 
 module _ {K V : Type 0} {hashed : K → ℕ} {xs : List (Slot K V)} {len : ℕ} (I : Indexed hashed xs len) where
   pub in_memory : len ≤ length xs
@@ -18,7 +19,7 @@ module _ {K V : Type 0} {hashed : K → ℕ} {xs : List (Slot K V)} {len : ℕ} 
   below_none = omega (arith, I.fits, within_links xs)
 
   pub length_entries : length (take len (pairs xs)) ≡ len
-  length_entries = length-take-le len (pairs xs) (simp length-map in_memory)
+  length_entries = length_of_entries xs len in_memory
 
   -- the entries that a clause sees
   pub length_seen : {C : Content K V} → content len xs ≡ C → length C.entries ≡ len
@@ -29,7 +30,7 @@ module _ {K V : Type 0} {hashed : K → ℕ} {xs : List (Slot K V)} {len : ℕ} 
   seen_place seen i lt = (omega (arith, length_seen seen), omega (arith, length_seen seen, in_memory))
 
   pub entry_at : (i : ℕ) (d : K × V) → i < len → get_or (take len (pairs xs)) i d ≡ get_or (pairs xs) i d
-  entry_at i d lt = get_or-take len (pairs xs) i d lt
+  entry_at i d lt = entry_of_slice xs len in_memory i d lt
 
   -- the key at a place, among the entries
   pub key_of_entry : (i : ℕ) (k : K) (d : K × V) → i < len → ((e : K × V) → k ≡ (get_or (pairs xs) i e).0)

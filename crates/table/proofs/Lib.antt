@@ -2,10 +2,12 @@ pub mod Apart
 pub mod Capacity
 pub mod Entries
 pub mod Homes
+pub mod Links
 pub mod Lists
 pub mod Marks
 pub mod Moves
 pub mod Seeks
+pub mod Slices
 pub mod Twos
 pub mod Walks
 pub mod Writes

@@ -1,16 +1,15 @@
 -- A search for a key down the chain of its bucket.
-use Rattle.std.proofs.Common.{◌≡◌, ℕ, ◌<◌, ◌≤◌, true, false, List, [], ◌∷◌, map, get_or, take, Some, None, Ok, Err, Option, ok_or, Ordering, sym, refl, ap, subst, ◌∙◌, inl, inr, arith}
-use Rattle.std.proofs.lemmas.List.{length-map, get_or-map}
-use Rattle.std.proofs.lemmas.Bool.{cases_lt, cases_Bool, both_ways}
+use Rattle.std.proofs.Common.{◌≡◌, ℕ, ◌<◌, ◌≤◌, true, false, List, [], ◌∷◌, get_or, take, Some, None, Ok, Err, Option, ok_or, Ordering, sym, refl, ap, subst, ◌∙◌, inl, inr, arith}
+use Rattle.std.proofs.lemmas.Bool.{cases_Bool, both_ways}
 use Rattle.std.specs.Ordering.{is_eq}
 use Rattle.keys.specs.Order.{Laws, alike}
 use Rattle.keys.specs.Laws.{equal_from}
 use Rattle.lists.specs.Latest.{latest}
-use Rattle.lists.proofs.Latest.{latest_covers}
 use Rattle.table.specs.declared.slot.Slot.{Slot}
 use Rattle.table.specs.Slots.{pairs, at, none}
 use Rattle.table.specs.Index.{home, mark, tags, bit_of, capacity_of, bucket_of, Indexed}
-use Rattle.table.proofs.Entries.{in_memory, length_entries, entry_at}
+use Rattle.table.proofs.Entries.{in_memory}
+use Rattle.table.proofs.Slices.{tag_of_same as slice_tag, home_of_same as slice_home, unseen_past as slice_unseen}
 use Rattle.table.specs.Content.{Content, content, Apart}
 use Rattle.lists.specs.Positions.{position}
 use Rattle.lists.proofs.Positions.{position_at, position_none, none_passes}
@@ -20,34 +19,22 @@ use Rattle.table.specs.Tables.{vacancy, found, sought}
 
 -- what follows from the value of a key, where an entry has it
 module _ {K V W : Type 0} (value : K → W) {hashed : K → ℕ} {xs : List (Slot K V)} {len : ℕ} (I : Indexed hashed xs len) (k : K) where
-  part_of_same : (part : K → ℕ) (p : ℕ) → ((j : K) → value j ≡ value k → part j ≡ p) → (i : ℕ) (d : K × V) → i < len
-      → value (get_or (take len (pairs xs)) i d).0 ≡ value k → at (map (λ e. part e.0) (pairs xs)) i ≡ p
-  part_of_same part p by_value i d lt e =
-      get_or-map (λ (z : K × V). part z.0) (pairs xs) i d 0 (simp length-map (omega (arith, in_memory I)))
-      ∙ by_value _ (sym (ap (λ (z : K × V). value z.0) (entry_at I i d lt)) ∙ e)
-
   -- such an entry has the key's mark
   pub tag_of_same : (m : ℕ) → ((j : K) → value j ≡ value k → mark (hashed j) ≡ m) → (i : ℕ) (d : K × V) → i < len
       → value (get_or (take len (pairs xs)) i d).0 ≡ value k → at (tags hashed (pairs xs)) i ≡ m
-  tag_of_same m by_value i d lt e = part_of_same (λ j. mark (hashed j)) m by_value i d lt e
+  tag_of_same m by_value i d lt e = slice_tag value hashed xs len m (in_memory I) k by_value i d lt e
 
   module _ (b : ℕ) (by_value : (j : K) → value j ≡ value k → home (capacity_of xs) (hashed j) ≡ b) where
     -- and is in the key's bucket
     pub home_of_same : (i : ℕ) (d : K × V) → i < len → value (get_or (take len (pairs xs)) i d).0 ≡ value k
         → bucket_of hashed xs i ≡ b
-    home_of_same i d lt e = part_of_same (λ j. home (capacity_of xs) (hashed j)) b by_value i d lt e
+    home_of_same i d lt e = slice_home value hashed xs len (capacity_of xs) b (in_memory I) k by_value i d lt e
 
     -- from the place of the link on, the key was not seen but perhaps there
     pub unseen_past : (p link : ℕ) → p ≤ len → link ≡ latest none (bucket_of hashed xs) b p
         → Unseen value (take len (pairs xs)) k p → (i : ℕ) (d : K × V) → i < len
         → value (get_or (take len (pairs xs)) i d).0 ≡ value k → (link < p) × (i ≤ link)
-    unseen_past p link pl el seen i d lt e =
-        elim (cases_lt i p) [
-          | inl ip ↦
-              let r = latest_covers none (bucket_of hashed xs) b p i ip (home_of_same i d lt e) in
-              (omega (arith, r.0), omega (arith, r.1))
-          | inr ge ↦ absurd (seen i d ge (omega (arith, length_entries I)) e)
-        ]
+    unseen_past p link pl el seen i d lt e = slice_unseen value hashed xs len (capacity_of xs) b (in_memory I) k by_value p link pl el seen i d lt e
 
 -- equal by test is equal by value, and not by test is not
 module _ {W : Type 0} (order : W → W → Ordering) (laws : Laws order) where

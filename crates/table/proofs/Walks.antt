@@ -3,8 +3,9 @@ use Rattle.std.proofs.Common.{◌≡◌, ℕ, ◌+◌, ◌<◌, ◌≤◌, ◌�
 use Rattle.std.proofs.lemmas.Bool.{cases_eq, cond-true, cond-false, eq-eqb, ne_eqb}
 use Rattle.lists.specs.Latest.{latest}
 use Rattle.lists.specs.Chains.{Chains, ChainsBut, Above}
-use Rattle.lists.proofs.Latest.{latest_range, latest_here, latest_covers}
+use Rattle.lists.proofs.Latest.{latest_range, latest_here}
 use Rattle.table.specs.Slots.{none, place_of}
+use Rattle.table.proofs.Links.{above_from as past_from}
 
 place_some : (link i : ℕ) → place_of link ≡ Some i → (i ≡ link) × (link ≡ none → ⊥)
 place_some link i e =
@@ -68,11 +69,4 @@ module _ (buckets n : ℕ) (h f x : ℕ → ℕ) (L : Chains none buckets n h f 
 module _ (buckets n g : ℕ) (h f x : ℕ → ℕ) (C : ChainsBut none buckets n g h f x) (nn : n ≤ none) (b : ℕ) (bl : b < buckets) where
   pub above_from : (p link : ℕ) → g < p → p ≤ n → (p < n → h p ≡ b) → link ≡ latest none C.bucket b p → (link < p → g < link → ⊥)
       → Above n h b g p
-  above_from p link gp pn here e stop = record {
-    past = gp;
-    within = pn;
-    here = here;
-    between = λ i lo hi q.
-        let r = latest_covers none C.bucket b p i hi (C.agrees i (omega arith) ∙ q) in
-        stop (omega (arith, r.0)) (omega (arith, r.1));
-  }
+  above_from p link gp pn here e stop = past_from none buckets n g h f x C nn b bl p link gp pn here e stop

@@ -8,7 +8,7 @@ ghost use Rattle.table.specs.Tables.{vacancy};
 use crate::memory::Memory;
 use crate::slot::{NONE, place_of};
 use crate::table::Vacancy;
-use keys::nodes::NodeTrait;
+use keys::nodes::{NodeTrait, same};
 
 // The bucket of a hash, by its upper half: no division.
 fn home_of(hash: u64, capacity: usize) -> usize
@@ -68,7 +68,7 @@ impl<'a, K: NodeTrait, V: Copy> Memory<'a, K, V> {
         // No iterator, as in `above`.
         let mut at = place_of(self.head_of(b));
         while let Some(i) = at {
-            if self.key_of(i) == *k {
+            if same(self.key(i), k) {
                 return Some(i);
             }
             at = place_of(self.next_of(i));

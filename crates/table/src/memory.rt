@@ -76,12 +76,20 @@ impl<'a, K: Copy, V: Copy> Memory<'a, K, V> {
         slots[i].next as usize
     }
 
+    // The key at place `i`, where it lies.
+    pub(crate) fn key(&self, i: usize) -> &K
+        requires { i < length self.now }
+        ensures { (d : K × V) → result.now ≡ (slice_index_or (pairs self.now) i d).0 }
+    {
+        let slots: &[Slot<K, V>] = self.slots;
+        &slots[i].key
+    }
+
     pub(crate) fn key_of(&self, i: usize) -> K
         requires { i < length self.now }
         ensures { (d : K × V) → result ≡ (slice_index_or (pairs self.now) i d).0 }
     {
-        let slots: &[Slot<K, V>] = self.slots;
-        slots[i].key
+        *self.key(i)
     }
 
     pub(crate) fn value_of(&self, i: usize) -> V

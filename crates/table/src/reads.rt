@@ -16,7 +16,8 @@ impl<'a, K: NodeTrait, V: Copy> Table<'a, K, V> {
 
     /// How many entries there is room for: as many as the memory has slots, and at most 65,535.
     pub fn capacity(&self) -> usize
-        ensures { result ≡ self.now.room }
+        ensures room { result ≡ self.now.room }
+        ensures most { self.now.room ≤ 65535 }
     {
         self.memory.capacity()
     }
@@ -25,6 +26,7 @@ impl<'a, K: NodeTrait, V: Copy> Table<'a, K, V> {
     pub fn as_slice(&self) -> &[Slot<K, V>]
         ensures entries { pairs result.now ≡ self.now.entries }
         ensures fits { length self.now.entries ≤ self.now.room }
+        ensures most { self.now.room ≤ 65535 }
         ensures apart { Apart K.value self.now.entries }
     {
         self.memory.first(self.len)

@@ -1,5 +1,4 @@
-ghost use Rattle.std.specs.Prelude.{ℕ};
-ghost use Rattle.std.proofs.Common.{rules};
+ghost use Rattle.std.specs.Prelude.{◌≡◌, ℕ, ◌/◌};
 ghost use Rattle.keys.specs.Nodes.{by_number};
 ghost use Rattle.keys.specs.Laws.{number_laws};
 
@@ -7,59 +6,51 @@ use crate::reads::*;
 use crate::slot::*;
 use crate::table::*;
 use keys::nodes::*;
+use keys::order::*;
 use keys::weights::*;
+use std::cmp::Ordering;
 use std::test::Fail;
 
 // A key whose value is coarser than its bits: 2 and 3 are the same key.
-#[derive(Clone, Copy)]
-#[derive_where(PartialEq, Eq, PartialOrd, Ord)]
-struct Half {
-    #[derive_where(skip)]
-    bits: u8,
-    half: u8,
-}
+#[derive(Clone, Copy, PartialEq, Eq, Debug)]
+struct Half(u8);
 
-impl Half {
-    fn of(bits: u8) -> Half {
-        Half {
-            bits,
-            half: bits / 2,
-        }
+impl Compare for Half {
+    ghost Value = { ℕ };
+
+    ghost value = { λ h. h.0 / 2 };
+
+    ghost order = { by_number };
+
+    ghost ordered = { number_laws };
+
+    fn compare(&self, other: &Half) -> Ordering {
+        (self.0 / 2).cmp(&(other.0 / 2))
     }
 }
 
 impl NodeTrait for Half {
-    ghost Value = { ℕ };
-
-    ghost value = { λ h. h.half };
-
-    ghost order = { by_number };
-
-    ghost hashed = { λ h. h.half };
-
-    ghost ordered = { number_laws };
-
-    ghost compares = { Prim.search rules };
+    ghost hashed = { λ h. h.0 / 2 };
 
     fn hash(&self) -> u64 {
-        u64::from(self.half)
+        u64::from(self.0 / 2)
     }
 }
 
 #[test]
 fn the_first_of_two_keys_of_one_value_is_kept(rt: HostRuntime) -> Result<(), Fail> {
-    let mut memory = [Slot::new(Half::of(9), Price(9)); 3];
+    let mut memory = [Slot::new(Half(9), Price(9)); 3];
     let mut t = Table::new(&mut memory);
-    for h in [Half::of(2), Half::of(3), Half::of(7)] {
+    for h in [Half(2), Half(3), Half(7)] {
         match t.find(&h) {
-            Ok(i) => assert_eq!(rt; t.set_value(i, Price(u32::from(h.bits))), Some(Price(2))),
-            Err(w) => assert!(rt; t.append(h, Price(u32::from(h.bits)), w).is_some()),
+            Ok(i) => assert_eq!(rt; t.set_value(i, Price(u32::from(h.0))), Some(Price(2))),
+            Err(w) => assert!(rt; t.append(h, Price(u32::from(h.0)), w).is_some()),
         }
     }
     assert!(rt; t.len() == 2);
-    assert_eq!(rt; t.key_at(0).bits, 2);
+    assert_eq!(rt; t.key_at(0), Half(2));
     assert_eq!(rt; t.value_at(0), Price(3));
-    assert_eq!(rt; t.key_at(1).bits, 7);
+    assert_eq!(rt; t.key_at(1), Half(7));
     Ok(())
 }
 

@@ -1,8 +1,8 @@
 -- A line that is cut at the ends of its first word. Assumes nothing.
-use Rattle.std.proofs.Common.{◌≡◌, ℕ, ◌<◌, ◌≤◌, Bool, true, false, not, ltb, List, [], ◌∷◌, length, take, drop, Some, None, sym, refl, ap, ◌∙◌, inl, inr, arith}
+use Rattle.std.proofs.Common.{◌≡◌, ℕ, ◌<◌, ◌≤◌, Bool, true, false, not, ltb, eqb, List, [], ◌∷◌, length, take, drop, Some, None, sym, refl, ap, ◌∙◌, inl, inr, arith}
 use Rattle.std.specs.List.{prefix_len, position_or_len, position}
 use Rattle.std.specs.Option.{unwrap_or}
-use Rattle.std.proofs.lemmas.Bool.{cases_lt, cond-true, cond-false, lt-ltb, le-ltb}
+use Rattle.std.proofs.lemmas.Bool.{cases_lt, eqb-true, eqb-false, cond-true, cond-false, lt-ltb, le-ltb}
 use Rattle.std.proofs.lemmas.List.{drop_all, length-drop}
 use Rattle.std.proofs.lemmas.List.Sums.{prefix_len-le-length}
 use Rattle.text.specs.Words.{blank, solid, from_word, word_of, after_word, parts, split}
@@ -58,3 +58,17 @@ one_word line xs start end e cut h =
     let within : 0 < length xs = omega (arith, length-drop start line, ap length cut) in
     let stops : end ≡ prefix_len solid xs = h ∙ or_end blank xs in
     ap parts (from_first line ∙ ap (λ n. drop n line) (sym at.0) ∙ sym cut) ∙ parts_some xs within ∙ ap (λ n. Some (take n xs, drop n xs)) (sym stops)
+
+-- the same where the front and the rest of the word are given
+pub split_none : (line start : List ℕ) → start ≡ from_word line → true ≡ eqb (length start) 0 → None ≡ split line
+unfolding split
+split_none line [] e h = ap parts e
+split_none line (b ∷ bs) e h = let no_byte : ⊥ = omega (arith, eqb-true (length (b ∷ bs)) 0 (sym h)) in absurd no_byte
+
+pub split_some : (line start front back : List ℕ) (n : ℕ) → start ≡ from_word line → false ≡ eqb (length start) 0 → n ≡ prefix_len solid start → front ≡ take n start → back ≡ drop n start → Some (front, back) ≡ split line
+unfolding split
+split_some line [] front back n e h long p q = absurd (eqb-false 0 0 (sym h) refl)
+split_some line (b ∷ bs) front back n e h long p q =
+    let first : front ≡ take (prefix_len solid (b ∷ bs)) (b ∷ bs) = p ∙ ap (λ k. take k (b ∷ bs)) long in
+    let rest : back ≡ drop (prefix_len solid (b ∷ bs)) (b ∷ bs) = q ∙ ap (λ k. drop k (b ∷ bs)) long in
+    (λ i. Some (first i, rest i)) ∙ ap parts e

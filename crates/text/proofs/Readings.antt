@@ -15,10 +15,10 @@ read_on_ge : (v : ℕ) (bs : List ℕ) → v ≤ read_on v bs
 read_on_ge v [] = omega arith
 read_on_ge v (b ∷ bs) = omega (arith, read_on_ge (v * 10 + (b - 48)) bs)
 
-limited_within : (n : ℕ) → n < 2 ^ 32 → limited n ≡ Ok n
+pub limited_within : (n : ℕ) → n < 2 ^ 32 → limited n ≡ Ok n
 limited_within n h = cond-true (ltb n (2 ^ 32)) (Ok n) (Err OverLimit) (lt-ltb n (2 ^ 32) h)
 
-limited_over : (n : ℕ) → 2 ^ 32 ≤ n → limited n ≡ Err OverLimit
+pub limited_over : (n : ℕ) → 2 ^ 32 ≤ n → limited n ≡ Err OverLimit
 limited_over n h = cond-false (ltb n (2 ^ 32)) (Ok n) (Err OverLimit) (le-ltb n (2 ^ 32) h)
 
 -- a conversion to 32 bits whose failure is told as a fault

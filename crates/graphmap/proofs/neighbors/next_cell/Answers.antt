@@ -5,7 +5,7 @@ use Rattle.graphmap.proofs.neighbors.next_cell.Goals as goal
 
 pub returns : goal.returns
 returns g c =
-    let K = keys g.N.NodeTrait.value g.N.NodeTrait.order in
+    let K = keys g.N.Compare.value g.N.Compare.order in
     let a = c.args in
     let w = a.w.now in
     record {

@@ -13,7 +13,7 @@ use Rattle.rows.proofs.walk.advance.Goals as goal
 
 pub returns : goal.returns
 returns g c e =
-    let K = keys g.N.NodeTrait.value g.N.NodeTrait.order in
+    let K = keys g.N.Compare.value g.N.Compare.order in
     let a = c.args.asked in
     let v = K.value a.node in
     let mem = c.args.cells.now in

@@ -14,7 +14,7 @@ use Rattle.rows.proofs.walk.nth_cell.Goals as goal
 
 pub returns : goal.returns
 returns g c e =
-    let K = keys g.N.NodeTrait.value g.N.NodeTrait.order in
+    let K = keys g.N.Compare.value g.N.Compare.order in
     let a = c.args.asked in
     let mem = c.args.cells.now in
     let w = c.args.walk in

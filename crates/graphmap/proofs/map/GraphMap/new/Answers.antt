@@ -8,7 +8,7 @@ use Rattle.graphmap.proofs.map.GraphMap.new.Goals as goal
 
 pub invariant_of-result : goal.invariant_of-result
 invariant_of-result g c =
-    let K = keys g.N.NodeTrait.value g.N.NodeTrait.order in
+    let K = keys g.N.Compare.value g.N.Compare.order in
     let ks = keys_of c.new.result in
     let none = ap length c.new-2.ensures.entries in
     record {

@@ -5,4 +5,4 @@ use Rattle.rows.proofs.memory.Rows.key.Goals as goal
 pub returns : goal.returns
 returns g c d =
     let r = c.cell.result in
-    ap (λ x. x.key) (c.cell.ensures.cell r) ∙ sym (get_or-map (λ x. x.key) c.args.self.now c.args.c r d c.requires)
+    rw (← c.self.view_is) (ap (λ x. x.key) (c.cell.ensures r) ∙ sym (get_or-map (λ x. x.key) c.self.inside.cells.now c.args.c r d (rw c.self.view_is c.requires)))

@@ -18,10 +18,10 @@ returns-then-marks_of-w-eq0 g c i d lt e =
     let len = c.args.len in
     let il : i < len = omega (arith, length_entries c.requires.indexed) in
     let b =
-    home_of_same g.K.NodeTrait.value c.requires.indexed c.args.k.now c.args.w.home
+    home_of_same g.K.Compare.value c.requires.indexed c.args.k.now c.args.w.home
     (λ j q. ap (λ (z : Vacancy). z.home) (c.requires.hashed j q)) i d il e in
     let m =
-    tag_of_same g.K.NodeTrait.value c.requires.indexed c.args.k.now c.args.w.mark
+    tag_of_same g.K.Compare.value c.requires.indexed c.args.k.now c.args.w.mark
     (λ j q. ap (λ (z : Vacancy). z.mark) (c.requires.hashed j q)) i d il e in
     let z = unmarked (two (marked s)) _ _ _ _ _ b m c.marks_of.ensures c.if-marks_of-w-eq0.true in
     omega (arith, z, c.requires.indexed.marks i il)

@@ -1,6 +1,5 @@
 use Rattle.std.proofs.Common.{◌≡◌, ◌<◌, get_or, take, sym, ap, ◌∙◌, arith}
 use Rattle.std.proofs.lemmas.Bool.{both_ways}
-use Rattle.keys.specs.Laws.{equal_alike}
 use Rattle.lists.specs.Latest.{latest}
 use Rattle.table.specs.Slots.{pairs, none, place_of}
 use Rattle.table.specs.Index.{bucket_of}
@@ -21,8 +20,8 @@ loop-at-init g c = (
   λ i d ge lt e. omega (arith, length_entries c.requires.indexed),
 )
 
-pub key_of-requires : goal.key_of-requires
-key_of-requires g c =
+pub key-requires : goal.key-requires
+key-requires g c =
     let w =
     walk_place _ c.args.len _ _ _ c.requires.indexed.chained (below_none c.requires.indexed) c.args.b c.requires.bucket c.loop-at.invariant.0 c.in-Some.i c.loop-at.invariant.1 (sym c.in-Some.is ∙ c.loop-at.invariant.2) in
     omega (arith, w.0, c.loop-at.invariant.1, in_memory c.requires.indexed)
@@ -33,15 +32,15 @@ next_of-requires g c =
     walk_place _ c.args.len _ _ _ c.requires.indexed.chained (below_none c.requires.indexed) c.args.b c.requires.bucket c.loop-at.invariant.0 c.in-Some.i c.loop-at.invariant.1 (sym c.in-Some.is ∙ c.loop-at.invariant.2) in
     omega (arith, w.0, c.loop-at.invariant.1, in_memory c.requires.indexed)
 
-pub returns-then-eq : goal.returns-then-eq
-returns-then-eq g c =
+pub returns-then-same : goal.returns-then-same
+returns-then-same g c =
     let w =
     walk_place _ c.args.len _ _ _ c.requires.indexed.chained (below_none c.requires.indexed) c.args.b c.requires.bucket c.loop-at.invariant.0 c.in-Some.i c.loop-at.invariant.1 (sym c.in-Some.is ∙ c.loop-at.invariant.2) in
     let lt : c.in-Some.i < c.args.len = omega (arith, w.0, c.loop-at.invariant.1) in (
       omega (arith, length_entries c.requires.indexed),
       λ d.
-          ap g.K.NodeTrait.value (key_of_entry c.requires.indexed c.in-Some.i c.key_of.result d lt c.key_of.ensures)
-          ∙ alike_same g.K.NodeTrait.order g.met.K.NodeTrait.ordered _ _ (sym (c.eq.ensures ∙ equal_alike g.K.NodeTrait.value g.K.NodeTrait.order g.met.K.NodeTrait.compares g.met.K.Ord.matches_eq _ _) ∙ c.if-eq.true),
+          ap g.K.Compare.value (key_of_entry c.requires.indexed c.in-Some.i c.key.result.now d lt c.key.ensures)
+          ∙ alike_same g.K.Compare.order g.met.K.Compare.ordered _ _ (sym c.same.ensures ∙ c.if-same.true),
     )
 
 pub loop-at-smaller : goal.loop-at-smaller
@@ -64,20 +63,20 @@ loop-at-preserved g c =
           ∙ (walk_next _ c.args.len _ _ _ c.requires.indexed.chained (below_none c.requires.indexed) c.args.b c.requires.bucket i c.next_of.result low w.2 c.next_of.ensures.value).0,
       λ j d ge lt e.
           let past =
-          unseen_past g.K.NodeTrait.value c.requires.indexed c.args.k.now c.args.b c.requires.hashed
+          unseen_past g.K.Compare.value c.requires.indexed c.args.k.now c.args.b c.requires.hashed
           c.loop-at.invariant.0 i c.loop-at.invariant.1 w.1 c.loop-at.invariant.3 j d (omega (arith, length_entries c.requires.indexed)) e in
           let q : j ≡ i = omega (arith, past.1) in
-          both_ways c.eq.result c.if-eq.false
-          ((c.eq.ensures ∙ equal_alike g.K.NodeTrait.value g.K.NodeTrait.order g.met.K.NodeTrait.compares g.met.K.Ord.matches_eq _ _)
-          ∙ same_alike g.K.NodeTrait.order g.met.K.NodeTrait.ordered _ _
-          (sym (ap g.K.NodeTrait.value (key_of_entry c.requires.indexed i c.key_of.result d low c.key_of.ensures))
-          ∙ (ap (λ z. g.K.NodeTrait.value (get_or (take c.args.len (pairs c.args.self.now)) z d).0) (sym q) ∙ e))),
+          both_ways c.same.result c.if-same.false
+          (c.same.ensures
+          ∙ same_alike g.K.Compare.order g.met.K.Compare.ordered _ _
+          (sym (ap g.K.Compare.value (key_of_entry c.requires.indexed i c.key.result.now d low c.key.ensures))
+          ∙ (ap (λ z. g.K.Compare.value (get_or (take c.args.len (pairs c.args.self.now)) z d).0) (sym q) ∙ e))),
     )
 
 pub returns : goal.returns
 returns g c j d lt e =
     let end = place_none (latest none (bucket_of g.K.NodeTrait.hashed c.args.self.now) c.args.b c.loop-at.invariant.0) (sym c.loop-at.invariant.2 ∙ c.in_default.is) in
     let past =
-    unseen_past g.K.NodeTrait.value c.requires.indexed c.args.k.now c.args.b c.requires.hashed
+    unseen_past g.K.Compare.value c.requires.indexed c.args.k.now c.args.b c.requires.hashed
     c.loop-at.invariant.0 none c.loop-at.invariant.1 (sym end) c.loop-at.invariant.3 j d (omega (arith, length_entries c.requires.indexed)) e in
     omega (arith, past.0, c.loop-at.invariant.1, below_none c.requires.indexed)

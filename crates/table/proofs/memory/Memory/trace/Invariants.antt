@@ -10,7 +10,7 @@ use Rattle.table.proofs.memory.Memory.trace.Given as goal
 abbrev pub invariant-loop-at : goal.invariant-loop-at
 invariant-loop-at g l =
     (p : ℕ) × (p ≤ l.len) × (l.at ≡ place_of (latest none (bucket_of g.K.NodeTrait.hashed l.self) l.b p))
-    × Unseen g.K.NodeTrait.value (take l.len (pairs l.self)) l.k p
+    × Unseen g.K.Compare.value (take l.len (pairs l.self)) l.k p
 
 abbrev pub decreases-loop-at : goal.decreases-loop-at
 decreases-loop-at g l = to_go l.at

@@ -15,16 +15,16 @@ returns-then-len-capacity g c =
     let t = c.args.self.now in
     record {
       done =
-          sym (cond-false (ltb (length t.entries) t.room) _ _ (le-ltb _ _ (omega (arith, length_seen c.self.invariant.index c.self.view_is, c.capacity.ensures))));
+          sym (cond-false (ltb (length t.entries) t.room) _ _ (le-ltb _ _ (omega (arith, length_seen c.self.invariant.index c.self.view_is, c.capacity.ensures.room))));
       room = refl;
     }
 
 pub enter-requires : goal.enter-requires
 enter-requires g c =
     let s = c.self.inside.memory in
-    let room : c.self.inside.len < capacity_of s = omega (arith, c.capacity.ensures, ap (λ z. z.room) c.self.view_is) in
+    let room : c.self.inside.len < capacity_of s = omega (arith, c.capacity.ensures.room, ap (λ z. z.room) c.self.view_is) in
     let v =
-    seen_vacant g.K.NodeTrait.order g.met.K.NodeTrait.ordered g.K.NodeTrait.value g.K.NodeTrait.hashed _ _ c.args.k c.args.w c.self.view_is c.requires.absent in
+    seen_vacant g.K.Compare.order g.met.K.Compare.ordered g.K.Compare.value g.K.NodeTrait.hashed _ _ c.args.k c.args.w c.self.view_is c.requires.absent in
     record {
       room = room;
       indexed = c.self.invariant.index;
@@ -38,13 +38,13 @@ invariant_of-self g c =
     let s = c.self.inside.memory in
     let len = c.self.inside.len in
     let v =
-    seen_vacant g.K.NodeTrait.order g.met.K.NodeTrait.ordered g.K.NodeTrait.value g.K.NodeTrait.hashed _ _ c.args.k c.args.w c.self.view_is c.requires.absent in
-    let room : len < capacity_of s = omega (arith, c.capacity.ensures, ap (λ z. z.room) c.self.view_is) in
+    seen_vacant g.K.Compare.order g.met.K.Compare.ordered g.K.Compare.value g.K.NodeTrait.hashed _ _ c.args.k c.args.w c.self.view_is c.requires.absent in
+    let room : len < capacity_of s = omega (arith, c.capacity.ensures.room, ap (λ z. z.room) c.self.view_is) in
     record {
       index = c.enter.ensures.indexed;
       apart =
           rw (take_set_end s c.enter.new.self len (c.args.k, c.args.v) c.enter.ensures.pair room)
-          (apart_push g.K.NodeTrait.value (take len (pairs s)) c.args.k c.args.v c.self.invariant.apart v.0);
+          (apart_push g.K.Compare.value (take len (pairs s)) c.args.k c.args.v c.self.invariant.apart v.0);
     }
 
 pub returns : goal.returns
@@ -53,7 +53,7 @@ returns g c =
     let s' = c.enter.new.self in
     let len = c.self.inside.len in
     let es = take len (pairs s) in
-    let room : len < capacity_of s = omega (arith, c.capacity.ensures, ap (λ z. z.room) c.self.view_is) in
+    let room : len < capacity_of s = omega (arith, c.capacity.ensures.room, ap (λ z. z.room) c.self.view_is) in
     rw (← c.self.view_is)
     (record {
       done =

@@ -30,5 +30,5 @@ returns g c =
     ∙ (ap (λ z. vacancy z c.hash.result) c.capacity.ensures ∙ ap (vacancy cap) (sym (c.hash.ensures c.args.k.now refl))) in
     rw (← c.self.view_is)
     (c.ok_or.ensures.value
-    ∙ located_sought g.K.NodeTrait.order g.met.K.NodeTrait.ordered g.K.NodeTrait.value g.K.NodeTrait.hashed cap _ c.args.k.now c.seek.result _ c.self.invariant.apart
+    ∙ located_sought g.K.Compare.order g.met.K.Compare.ordered g.K.Compare.value g.K.NodeTrait.hashed cap _ c.args.k.now c.seek.result _ c.self.invariant.apart
     c.seek.ensures w)

@@ -25,7 +25,7 @@ invariant_of-self g c =
           c.set_pair.ensures.pair c.set_pair.ensures.heads c.set_pair.ensures.next c.set_pair.ensures.marks;
       apart =
           rw (ap (take len) c.set_pair.ensures.pair ∙ take-set-lt len (pairs s) i (x.key, c.args.v) there.1)
-          (apart_set g.K.NodeTrait.value (take len (pairs s)) i x.key c.args.v key c.self.invariant.apart);
+          (apart_set g.K.Compare.value (take len (pairs s)) i x.key c.args.v key c.self.invariant.apart);
     }
 
 pub returns-clause-done : goal.returns-clause-done

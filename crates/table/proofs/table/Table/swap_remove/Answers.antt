@@ -29,7 +29,7 @@ invariant_of-self g c = record {
   index = c.extract.ensures.indexed;
   apart =
       rw c.extract.ensures.entries
-      (apart_swap_removed g.K.NodeTrait.value _ c.args.i c.self.invariant.apart (omega (arith, length_entries c.self.invariant.index)));
+      (apart_swap_removed g.K.Compare.value _ c.args.i c.self.invariant.apart (omega (arith, length_entries c.self.invariant.index)));
 }
 
 pub returns : goal.returns

@@ -1,5 +1,6 @@
 -- The first search is for a byte of a word, the second for the blank after it.
-use Rattle.std.proofs.Common.{rules, ◌-◌, length, take, drop, refl, ap, sym, ◌∙◌}
+use Rattle.std.proofs.Common.{rules, ◌≡◌, ◌-◌, Some, None, length, take, drop, refl, ap, ◌∙◌}
+use Rattle.std.specs.List.{position}
 use Rattle.std.specs.Option.{unwrap_or}
 use borrow.Author.Tests.{tests}
 use Rattle.std.proofs.lemmas.Iterator.{YieldsList-from_slice}
@@ -13,7 +14,8 @@ pub returns-in_err-start-clause-steps : goal.returns-in_err-start-clause-steps
 returns-in_err-start-clause-steps c =
     let line = c.args.self.now.rest.now in
     let found = position_from_yields_List solid _ _ c.position.result c.position.ensures.ran (YieldsList-from_slice line cc) (λ x b q k. search (rules, tests)) in
-    rw c.from_residual.ensures (no_word line (sym c.in_err-start.was ∙ found), refl)
+    let gone : None ≡ position solid line = search (rules, found, c.in_err-start.was) in
+    rw c.from_residual.ensures (no_word line gone, refl)
 
 pub returns-clause-steps : goal.returns-clause-steps
 returns-clause-steps c =
@@ -22,5 +24,6 @@ returns-clause-steps c =
     let found = position_from_yields_List solid _ _ c.position.result c.position.ensures.ran (YieldsList-from_slice line cc) (λ x b q k. search (rules, tests)) in
     let rest = take (length line - start) (drop start line) in
     let ends = position_from_yields_List blank _ _ c.position-2.result c.position-2.ensures.ran (YieldsList-from_slice rest cc) (λ x b q k. search (rules, tests)) in
-    let cut = one_word line rest start _ (sym c.in_ok-start.was ∙ found) (take_rest line start) (c.unwrap_or-end.ensures ∙ ap (λ o. unwrap_or o (length rest)) ends) in
+    let begins : Some start ≡ position solid line = search (rules, found, c.in_ok-start.was) in
+    let cut = one_word line rest start _ begins (take_rest line start) (c.unwrap_or-end.ensures ∙ ap (λ o. unwrap_or o (length rest)) ends) in
     cc (cut, c.split_at.ensures.front, c.split_at.ensures.back)
