@@ -6,7 +6,7 @@ ghost use Rattle.model.specs.Calls.{add_new, add_edge};
 ghost use Rattle.graphmap.specs.Parts.{Sound, SoundParts, link_search, parts_of, state_of};
 
 use crate::map::GraphMap;
-use crate::parts::{put_back, taken};
+use crate::parts::{put_back, take_out};
 use adjacency::adjacency::NodesWithRows;
 use adjacency::joins::lacking;
 use keys::kinds::Kind;
@@ -90,7 +90,7 @@ pub fn add_edge<N: NodeTrait, E: Copy>(
     ensures sound { SoundParts N.value N.order (parts_of kind nodes.new links.new rows.new) }
     ensures done { (result, state_of (parts_of kind nodes.new links.new rows.new)) ≡ add_edge (keys N.value N.order) a b w (state_of (parts_of kind nodes.old links.old rows.old)) }
 {
-    let mut adjacency = taken(nodes, rows);
+    let mut adjacency = take_out(nodes, rows);
     let answer = add_link(kind, &mut adjacency, links, a, b, w);
     put_back(adjacency, nodes, rows);
     answer

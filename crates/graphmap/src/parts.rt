@@ -47,8 +47,8 @@ impl<'a, N: NodeTrait, E: Copy> GraphMap<'a, N, E> {
     }
 }
 
-// The nodes with their rows, out of the table and the rows that have them. These are left empty.
-pub(crate) fn taken<'a, 'r, N: NodeTrait>(
+// Takes the nodes with their rows out of the table and the rows that have them, which are left empty.
+pub(crate) fn take_out<'a, 'r, N: NodeTrait>(
     nodes: &mut Table<'a, N, RowHead>,
     rows: &mut Rows<'r, N>,
 ) -> NodesWithRows<'a, 'r, N>

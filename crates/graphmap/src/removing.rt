@@ -5,7 +5,7 @@ ghost use Rattle.model.specs.Calls.{remove_edge};
 ghost use Rattle.graphmap.specs.Parts.{Sound, SoundParts, parts_of, state_of};
 
 use crate::map::GraphMap;
-use crate::parts::{put_back, taken};
+use crate::parts::{put_back, take_out};
 use adjacency::adjacency::NodesWithRows;
 use keys::kinds::Kind;
 use keys::nodes::NodeTrait;
@@ -47,7 +47,7 @@ pub fn remove_edge<N: NodeTrait, E: Copy>(
     ensures sound { SoundParts N.value N.order (parts_of kind nodes.new links.new rows.new) }
     ensures done { (result, state_of (parts_of kind nodes.new links.new rows.new)) ≡ remove_edge (keys N.value N.order) a b (state_of (parts_of kind nodes.old links.old rows.old)) }
 {
-    let mut adjacency = taken(nodes, rows);
+    let mut adjacency = take_out(nodes, rows);
     let weight = remove_link(kind, &mut adjacency, links, a, b);
     put_back(adjacency, nodes, rows);
     weight

@@ -103,5 +103,6 @@ next_over {K} {mem} {mem'} {h} {h'} {a} {b} d n s =
       len = s.len;
     }
 
--- two cells are joined, whatever the links were that are written over
+-- two cells are joined, whatever the links were that are written over. The code needs neither: with them a slip in a
+-- link that is written twice fails in what is said of the row, and not on the way there.
 pub ruleset over = (first_over, next_over)
