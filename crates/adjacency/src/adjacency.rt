@@ -45,7 +45,7 @@ impl<'a, 'r, N: NodeTrait> NodesWithRows<'a, 'r, N> {
 
     /// The nodes of a table, with their rows in the cells, where these fit one another.
     pub fn from_parts(nodes: Table<'a, N, RowHead>, rows: Rows<'r, N>) -> Self
-        requires stage { Stage N.value N.order (record { nodes = nodes; cells = rows }) }
+        requires sound { Stage N.value N.order (record { nodes = nodes; cells = rows }) }
         ensures { result ≡ record { nodes = nodes.entry; cells = rows.entry } }
     {
         NodesWithRows { nodes, rows }

@@ -52,7 +52,7 @@ pub(crate) fn take_out<'a, 'r, N: NodeTrait>(
     nodes: &mut Table<'a, N, RowHead>,
     rows: &mut Rows<'r, N>,
 ) -> NodesWithRows<'a, 'r, N>
-    requires stage { Stage N.value N.order (record { nodes = nodes.old; cells = rows.old }) }
+    requires sound { Stage N.value N.order (record { nodes = nodes.old; cells = rows.old }) }
     ensures { result ≡ record { nodes = nodes.old; cells = rows.old } }
 {
     let nodes = mem::replace(nodes, Table::new(&mut []));
